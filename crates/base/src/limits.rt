@@ -1,0 +1,2 @@
+// The largest time, in milliseconds.
+pub const TIME_LIMIT: u64 = 10_000_000_000_000;

@@ -1,0 +1,12 @@
+pub mod Bounds
+pub mod Fold
+pub mod Follows
+pub mod Held
+pub mod Invariant
+pub mod Logic
+pub mod Meanings
+pub mod Moves
+pub mod Reading
+pub mod Resets
+pub mod Safety
+pub mod Witnesses

@@ -1,0 +1,4 @@
+pub mod Direct
+pub mod Drive
+pub mod Model
+pub mod Rest
