@@ -1,0 +1,2 @@
+pub mod LowWater
+pub mod Runs

@@ -1,0 +1,3 @@
+pub mod FloatArm
+pub mod Runs
+pub mod SoftStarter
