@@ -133,7 +133,7 @@ leading p r (e ∷ h) held w = leading-next p r e h held w (cases-bool (powered 
 -- a long reset, let go, drives the pump
 drives-after : (p : Plate) (e b : Event) (g : List Event) → LongReset p e (b ∷ g) → drives (state-of p (e ∷ (b ∷ g))) ≡ true
 drives-after p e b g long =
-    let found = held-from p 14500 (time b) (b ∷ g) (long .held) in
+    let found = held-from p 14500 (time b) (b ∷ g) (long .held-long) in
     let r = found .0 in
     let st = state-of p (b ∷ g) in
     let k = kept p (b ∷ g) in
@@ -149,12 +149,12 @@ drives-after p e b g long =
     let step-is = next-moved p e (b ∷ g) st k lit was in
     let operates : operate (moved p st (e .step) (e .reading) .signal) ≡ true =
     carried p e b g st lit was k w (λ m sig x. operate sig ≡ true)
-    (ap (λ m. operate (next-signal m Allok (e .step .reset) (st .signal))) operating ∙ ap (λ u. operate (next-signal Operating Allok u (st .signal))) (long .up))
+    (ap (λ m. operate (next-signal m Allok (e .step .reset) (st .signal))) operating ∙ ap (λ u. operate (next-signal Operating Allok u (st .signal))) (not-true (e .step .reset) (long .let-go)))
     in
     let after = state-of p (e ∷ (b ∷ g)) in
     let watch = and-parts (allok (after .failure)) (watched (after .watchdog)) (kept p (e ∷ (b ∷ g)) .key ∙ w) .1 in
     and-from (operate (after .signal)) (watched (after .watchdog)) (ap (λ x. operate (x .signal)) step-is ∙ operates) watch
 
 pub long-reset-drives : (p : Plate) (e : Event) (h : List Event) → LongReset p e h → drives (state-of p (e ∷ h)) ≡ true
-long-reset-drives p e [] long = absurd (both-ways false refl (long .held))
+long-reset-drives p e [] long = absurd (both-ways false refl (long .held-long))
 long-reset-drives p e (b ∷ g) long = drives-after p e b g long

@@ -5,5 +5,5 @@ pub witnessed : Witnessed
 witnessed = record {
   closed = refl;
   bad = refl;
-  long = record { held = refl; calm = refl; up = refl; no-fault = refl };
+  long = record { held-long = refl; calm = refl; let-go = refl; no-fault = refl };
 }

@@ -94,15 +94,19 @@ trip p e h = start e h || (ltb 500 (button-time test-down e h) || level-trip p e
 abbrev pub full-reset : Plate → Event → List Event → Bool
 full-reset p e h = ltb 3000 (button-time reset-down e h) && settled p e
 
--- After the last trip came a full reset; and after that a step with reset up.
+-- After the last trip came a full reset; and after that it was let go.
 abbrev pub no-trip : Plate → Event → List Event → Bool
 no-trip p e h = not (trip p e h)
 
 abbrev pub reset-since-trip : Plate → List Event → Bool
 reset-since-trip p = lately (no-trip p) (full-reset p)
 
+-- Let go: a step with reset up.
+abbrev pub lets-go : Event → Bool
+lets-go e = not (e .step .reset)
+
 abbrev pub let-go-since-trip : Plate → List Event → Bool
-let-go-since-trip p = lately (no-trip p) (λ e h. not (e .step .reset) && reset-since-trip p h)
+let-go-since-trip p = lately (no-trip p) (λ e h. lets-go e && reset-since-trip p h)
 
 -- There was a start, and no step from then on shows a fault.
 abbrev pub faultless : Plate → List Event → Bool
@@ -127,3 +131,7 @@ since such d t = lately such (λ e h. leb (time e + d) t)
 abbrev pub lasted : (Event → List Event → Bool) → ℕ → List Event → Bool
 lasted such d [] = false
 lasted such d (e ∷ h) = since such d (time e) (e ∷ h)
+
+-- Held: the newest steps, over d ms or more, are quiet with reset down.
+abbrev pub held : Plate → ℕ → List Event → Bool
+held p d = lasted (quiet-reset p) d
