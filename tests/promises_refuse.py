@@ -2,7 +2,8 @@
 """Shows that the three promises refuse wrong monitors.
 
 Each change below alters the code and its definition together, so that every function still meets its own
-contract up to the promises. The crates below the monitor must stay proved, and the monitor must be refused.
+contract up to the promises. The crates below the monitor must stay proved, the monitor must be refused, and the
+proof of the contrary, a run for which the promise is false, must be accepted.
 Run it from anywhere: `python3 tests/promises_refuse.py [NAME ..]`. It works on a copy and takes some minutes.
 """
 
@@ -61,12 +62,85 @@ CHANGES = {
 }
 
 
+# A proof that the promises are false of the changed monitor, over a cell, a direct contact and the standard plate.
+COUNTER = "crates/monitor/proofs/Counter.antt"
+COUNTER_HEAD = """use Prim.Native.Nat.{ℕ, zero, suc, _+_, _*_}
+use mathlib.Core.Bool.{Bool, true, false}
+use mathlib.Core.List.{List, [], _∷_}
+use mathlib.Core.Path.{_≡_, refl}
+use Rattle.control.specs.Plate.{standard}
+use Rattle.gauges.specs.Cell.{cell, nothing-taken}
+use Rattle.records.specs.declared.step.Step.{Step}
+use Rattle.std.proofs.shelf.Tests.{both-ways}
+use Rattle.switches.specs.Direct.{contact-at, direct}
+use Rattle.monitor.specs.Calls.{set-up}
+use Rattle.monitor.specs.History.{Call, step}
+use Rattle.monitor.specs.Promises.{Promises}
+
+-- a power-on step: the word, the time, reset down, self test down
+abbrev at : ℕ → ℕ → Bool → Bool → Step
+at word t reset test = record { time = t; a = word; b = 0; power = true; reset = reset; «self_test» = test; «memory_failed» = false; «clock_failed» = false }
+
+-- calls at a settled level with reset down, each 400 ms, from t on
+abbrev held : List Call → ℕ → ℕ → List Call
+held before t zero = step (at 128 t true false) ∷ before
+held before t (suc n) = step (at 128 (t + 400 * suc n) true false) ∷ held before t n
+
+abbrev running : List Call
+running = step (at 128 16200 false false) ∷ held [] 1000 37
+
+-- high water with all buttons up, each 400 ms from 16,600 on, after the pump was started
+abbrev flooded : ℕ → List Call
+flooded zero = running
+flooded (suc n) = step (at 240 (16600 + 400 * n) false false) ∷ flooded n
+
+refuted : Promises cell direct standard nothing-taken (set-up direct nothing-taken (contact-at true) standard) → ⊥
+"""
+
+# A false statement: that it is refused shows that the file was read.
+COUNTER_TAIL = """
+
+control : _≡_ {A = Bool} false true
+control = refl
+"""
+
+LONG_RESET = "(record { held-long = refl; calm = refl; let-go = refl; no-fault = refl })"
+
+COUNTERS = {
+    "a monitor that never closes":
+        f"refuted ps = both-ways false refl (ps .closes (step (at 128 16200 false false)) (held [] 1000 37) (at 128 16200 false false) refl {LONG_RESET})",
+    "a reset that need not be let go":
+        "refuted ps = both-ways false refl (ps .closed-rightly (held [] 1000 8) refl .let-go)",
+    "a fault forgotten when the gauge recovers":
+        "refuted ps = both-ways false refl (ps .closed-rightly (step (at 128 5000 false false) ∷ held (step (at 300 1000 false false) ∷ []) 1400 8) refl .no-fault)",
+    "a self test held down that keeps the pump on":
+        "refuted ps = both-ways false refl (ps .closed-rightly (step (at 128 17400 false true) ∷ step (at 128 17000 false true) ∷ step (at 128 16600 false true) ∷ running) refl .let-go)",
+    "a slow shutdown":
+        "refuted ps = both-ways false refl (ps .closed-rightly (flooded 2) refl .let-go)\n\n"
+        "late : Promises cell direct standard nothing-taken (set-up direct nothing-taken (contact-at true) standard) → ⊥\n"
+        "late ps = both-ways true (ps .opens (flooded 8) refl) refl",
+    "a test that lasts too long":
+        f"refuted ps = both-ways false refl (ps .closes (step (at 128 17400 false false)) (held (step (at 128 1800 false true) ∷ step (at 128 1400 false true) ∷ step (at 128 1000 false true) ∷ []) 2200 37) (at 128 17400 false false) refl {LONG_RESET})",
+    "a watchdog fed by a refused step":
+        f"refuted ps = both-ways false refl (ps .closes (step (at 128 16200 false false)) (step (at 128 10000000000001 true false) ∷ held [] 1000 37) (at 128 16200 false false) refl {LONG_RESET})",
+    "a contact left closed at set-up":
+        "refuted ps = both-ways false refl (ps .closed-rightly [] refl .no-fault)",
+}
+
+
 def make_copy(folder: Path) -> None:
     for crate in LIBRARY:
         shutil.copytree(ROOT / "crates" / crate, folder / "crates" / crate, ignore=shutil.ignore_patterns("must-fail"))
     lines = (ROOT / "crates.txt").read_text().splitlines()
     kept = [line for line in lines if line.split(":")[0] in LIBRARY]
     (folder / "crates.txt").write_text("\n".join(kept) + "\n")
+    lib = folder / "crates/monitor/proofs/Lib.antt"
+    lib.write_text(lib.read_text() + "pub mod Counter\n")
+    set_counter(folder, "")
+
+
+def set_counter(folder: Path, proof: str) -> None:
+    (folder / COUNTER).write_text(COUNTER_HEAD + proof + COUNTER_TAIL if proof else "")
 
 
 def check(folder: Path) -> tuple[bool, str]:
@@ -89,13 +163,20 @@ def restore(folder: Path, edits: list[tuple[str, str, str]]) -> None:
         shutil.copyfile(ROOT / name, folder / name)
 
 
-def first_refusal(said: str) -> str:
-    """The first error, or the first function left without a proof."""
-    for line in said.splitlines():
-        if ": error" in line or "no proof" in line or "not proved" in line:
-            line = re.sub(r"^.*?crates/", "crates/", line)
-            return line[:160]
-    return "?"
+REFUTED = "refused, and the promise is refuted by a run"
+
+
+def judge(proved: bool, said: str) -> str:
+    lower = re.findall(r"rt: (\w+) NOT PROVED", said)
+    if proved:
+        return "SURVIVED"
+    if lower:
+        return f"NOT SHOWN: refused below the monitor, in {lower[0]}"
+    errors = [line for line in said.splitlines() if COUNTER in line and ": error" in line]
+    others = [line for line in errors if "`control`" not in line]
+    if others or not errors:
+        return f"refused, but NOT REFUTED: {others[0][:300] if others else 'the counterexample was not read'}"
+    return REFUTED
 
 
 def main() -> None:
@@ -109,17 +190,11 @@ def main() -> None:
             sys.exit("the unchanged monitor is not proved:\n" + said[-2000:])
         for change in wanted:
             apply(folder, CHANGES[change])
-            proved, said = check(folder)
-            lower = re.findall(r"rt: (\w+) NOT PROVED", said)
-            if proved:
+            set_counter(folder, COUNTERS[change])
+            verdict = judge(*check(folder))
+            if verdict != REFUTED:
                 survived.append(change)
-                print(f"SURVIVED  {change}")
-            elif lower:
-                survived.append(change)
-                print(f"NOT SHOWN {change}: refused below the monitor, in {lower[0]}: {first_refusal(said)}")
-            else:
-                print(f"refused   {change}: {first_refusal(said)}")
-            sys.stdout.flush()
+            print(f"{change}: {verdict}", flush=True)
             restore(folder, CHANGES[change])
     if survived:
         sys.exit(1)
