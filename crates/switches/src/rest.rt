@@ -74,7 +74,7 @@ pub impl<S: Switch> Switch for Rest<S> as RestSwitch {
     }
 
     fn is_free(&self) -> bool {
-        self.below.is_closed() || (self.below.is_free() && self.is_rested())
+        self.is_closed() || (self.below.is_free() && self.is_rested())
     }
 }
 
