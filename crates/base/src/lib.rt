@@ -1,4 +1,6 @@
 // What every other crate shares: the limit of time, and the refusals with their numbers.
+#![tactic(auto)]
+
 mod limits;
 mod refusal;
 

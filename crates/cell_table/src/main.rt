@@ -1,5 +1,7 @@
 // Prints what the pressure cell reads at every word of its scale and at some beyond it, and what the
 // standard plate says of each reading.
+#![tactic(auto)]
+
 use control::Plate;
 use gauges::{Cell, Gauge, Reading};
 use std::alloc::Global;

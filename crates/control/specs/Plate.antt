@@ -1,5 +1,5 @@
 -- What a plate says of a reading. A faulty reading is none of these.
-use Rattle.std.specs.Prelude.{ℕ, ◌+◌, ◌-◌, Bool, true, false, ◌&&◌, ◌||◌, nat_le, nat_lt, refl}
+use Rattle.std.specs.Prelude.{ℕ, ◌+◌, ◌-◌, Bool, false, ◌&&◌, ◌||◌, nat_le, nat_lt, refl}
 use Rattle.gauges.specs.declared.reading.Reading.{Reading}
 use Rattle.gauges.specs.declared.reading.Reading.TheVariants.{Level, Faulty}
 use Rattle.control.specs.declared.plate.Plate.{Plate}
@@ -16,11 +16,6 @@ standard = record { numbers = standard_numbers; ok = refl }
 abbrev pub past_mark : Plate → Reading → Bool
 past_mark p (Level u) = nat_lt u p.numbers.low_mark || nat_lt p.numbers.high_mark u
 past_mark p (Faulty f) = false
-
--- a fault, or a level past a mark
-abbrev pub bad_reading : Plate → Reading → Bool
-bad_reading p (Level u) = past_mark p (Level u)
-bad_reading p (Faulty f) = true
 
 -- at or above the high limit
 abbrev pub high : Plate → Reading → Bool

@@ -1,11 +1,12 @@
 -- The state after an accepted step.
 use Rattle.std.specs.Prelude.{ℕ, ◌+◌, ◌-◌, Bool, true, false, cond, ◌||◌, nat_le}
 use Rattle.gauges.specs.declared.reading.Reading.{Reading}
+use Rattle.gauges.specs.declared.reading.Reading.TheVariants.{Level, Faulty}
 use Rattle.records.specs.declared.step.Step.{Step}
 use Rattle.control.specs.Button.{pressed, released}
 use Rattle.control.specs.Modes.{allok, is}
 use Rattle.control.specs.ModeTable.{next_mode}
-use Rattle.control.specs.Plate.{bad_reading, out_of_limits, settled}
+use Rattle.control.specs.Plate.{past_mark, out_of_limits, settled}
 use Rattle.control.specs.State.{dark}
 use Rattle.control.specs.declared.button.Button.{Button}
 use Rattle.control.specs.declared.mode.FailureMode.{FailureMode}
@@ -30,7 +31,12 @@ late st t = nat_le (st.time + 500) t
 abbrev pub next_watchdog : State → ℕ → Watchdog
 next_watchdog st t = cond (late st t) watchdog.Shut st.watchdog
 
--- Part 3. The failure mode after: failed memory or clock, a bad reading.
+-- Part 3. A fault, or a level past a mark.
+abbrev pub bad_reading : Plate → Reading → Bool
+bad_reading p (Level u) = past_mark p (Level u)
+bad_reading p (Faulty f) = true
+
+-- the failure mode after: failed memory or clock, a bad reading
 abbrev pub worse : FailureMode → Bool → Bool → FailureMode
 worse f true bad = Hardfail
 worse Allok false bad = cond bad Badlevdev Allok

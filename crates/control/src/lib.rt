@@ -1,5 +1,7 @@
 // The monitor's decisions, apart from gauge, switch and display: the plate, the modes, the buttons,
 // and the state that one accepted step leads to.
+#![tactic(auto)]
+
 mod button;
 mod mode;
 mod mode_table;

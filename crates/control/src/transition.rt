@@ -6,32 +6,31 @@ use crate::mode::{FailureMode, Mode, Signal, Watchdog};
 use crate::mode_table::{Conditions, next_mode};
 use crate::plate::Plate;
 use crate::state::State;
-use gauges::{Gauge, Reading};
+use gauges::Reading;
 use records::Step;
 
 // A step this much later than the one before, or more, shuts the watchdog.
 const WATCHDOG_TIME: u64 = 500;
 
 impl State {
-    // The state after an accepted step. The gauge has taken the step's words.
-    pub fn next<G: Gauge>(&self, plate: &Plate, step: Step, gauge: &G) -> State
-        ensures { result ≡ next_state plate.now self.now step (G.Gauge.model.reading gauge.now) }
+    // The state after an accepted step; `reading` is the gauge's, once it has taken the step's words.
+    pub fn next(&self, plate: &Plate, step: Step, reading: Reading) -> State
+        ensures { result ≡ next_state plate.now self.now step reading }
     {
         if !step.power {
             return State::dark(step.time);
         }
         match self.mode {
-            Mode::Dark => start(plate, step, gauge),
-            _ => self.moved(plate, step, gauge),
+            Mode::Dark => start(plate, step, reading),
+            _ => self.moved(plate, step, reading),
         }
     }
 
     // A power-on step that is no start.
-    fn moved<G: Gauge>(&self, plate: &Plate, step: Step, gauge: &G) -> State
-        ensures { result ≡ moved plate.now self.now step (G.Gauge.model.reading gauge.now) }
+    fn moved(&self, plate: &Plate, step: Step, reading: Reading) -> State
+        ensures { result ≡ moved plate.now self.now step reading }
     {
         let time = step.time;
-        let reading = gauge.reading();
         let failed = step.memory_failed || self.clock_fails(step);
         let failure = worse(self.failure, failed, plate.is_bad(reading));
         let reset = self.reset.next(step.reset, time);
@@ -110,11 +109,10 @@ impl State {
 }
 
 // A power-on step in the dark.
-fn start<G: Gauge>(plate: &Plate, step: Step, gauge: &G) -> State
-    ensures { result ≡ started plate.now step (G.Gauge.model.reading gauge.now) }
+fn start(plate: &Plate, step: Step, reading: Reading) -> State
+    ensures { result ≡ started plate.now step reading }
 {
     let time = step.time;
-    let reading = gauge.reading();
     let failed = step.memory_failed || step.clock_failed;
     State {
         mode: Mode::Standby,

@@ -1,4 +1,6 @@
 // What the keeper sees and hears: the two windows, the alarm, the level figure, and the readout's line.
+#![tactic(auto)]
+
 mod buffer;
 mod figure;
 mod line;

@@ -1,6 +1,8 @@
 // Takes words into gauges of every kind and prints what each reads, to be held against the reference
 // program. Standard input has 16-byte entries of four 32-bit numbers, high byte first: the kind of
 // gauge, the echo gauge's mount height as a float's bits, word A and word B.
+#![tactic(auto)]
+
 use base::Refusal;
 use gauges::{Cell, Echo, Gauge, Pair, Reading};
 use std::alloc::Global;

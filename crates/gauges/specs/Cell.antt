@@ -22,7 +22,7 @@ abbrev pub last_took : Option ℕ → Cell
 last_took word = record { word = word }
 
 abbrev pub nothing_taken : Cell
-nothing_taken = last_took None
+nothing_taken = record { word = None }
 
 abbrev pub cell : Model Cell
 cell = record {

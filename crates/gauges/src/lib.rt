@@ -1,4 +1,6 @@
 // Gauges: what a gauge promises (`Gauge`), what it reads (`Reading`), and the gauges themselves.
+#![tactic(auto)]
+
 mod cell;
 mod echo;
 mod gauge;

@@ -1,5 +1,7 @@
 // Tables of hostile calls on the library crates: the smallest and largest numbers, both sides of every edge,
 // buffers of every awkward size. This crate has nothing but tests.
+#![tactic(auto)]
+
 #[cfg(test)]
 mod common;
 #[cfg(test)]

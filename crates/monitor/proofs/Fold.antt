@@ -3,10 +3,10 @@ use Rattle.std.proofs.Common.{◌≡◌, ℕ, ◌+◌, ◌-◌, ◌<◌, ◌≤�
 use Rattle.control.specs.Button.{pressed, released}
 use Rattle.control.specs.ModeTable.{next_mode}
 use Rattle.control.specs.Modes.{allok, is}
-use Rattle.control.specs.Plate.{bad_reading, out_of_limits, past_mark}
+use Rattle.control.specs.Plate.{out_of_limits, past_mark}
 use Rattle.control.specs.Plate as plate
 use Rattle.control.specs.State.{dark, operate, watched}
-use Rattle.control.specs.Transition.{clock_fails, conditions, entered_after, late, mode_after, moved, next_signal, next_state, next_watchdog, started, worse}
+use Rattle.control.specs.Transition.{bad_reading, clock_fails, conditions, entered_after, late, mode_after, moved, next_signal, next_state, next_watchdog, started, worse}
 use Rattle.control.specs.declared.button.Button.{Button}
 use Rattle.control.specs.declared.mode.FailureMode.{FailureMode}
 use Rattle.control.specs.declared.mode.FailureMode.TheVariants.{Allok}

@@ -2,9 +2,9 @@
 use Rattle.std.proofs.Common.{◌≡◌, ℕ, ◌-◌, Bool, true, false, cond, not, ◌&&◌, ◌||◌, sym, refl, ap, ◌∙◌, arith}
 use native.Mathlib.Nat.{sub_self}
 use Rattle.control.specs.Modes.{allok}
-use Rattle.control.specs.Plate.{bad_reading, past_mark}
+use Rattle.control.specs.Plate.{past_mark}
 use Rattle.control.specs.State.{watched}
-use Rattle.control.specs.Transition.{worse}
+use Rattle.control.specs.Transition.{bad_reading, worse}
 use Rattle.control.specs.declared.mode.FailureMode.{FailureMode}
 use Rattle.control.specs.declared.mode.FailureMode.TheVariants.{Allok, Badlevdev, Hardfail}
 use Rattle.control.specs.declared.mode.Watchdog.{Watchdog}

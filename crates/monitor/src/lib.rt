@@ -1,5 +1,7 @@
 // The level monitor: one gauge, one pump switch and one plate. Generic over every gauge and every switch.
 // `Monitor::set_up` carries the three promises over every run of calls.
+#![tactic(auto)]
+
 mod feed;
 mod laws;
 mod monitor;

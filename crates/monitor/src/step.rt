@@ -27,8 +27,8 @@ impl<G: Gauge, S: Switch> Monitor<G, S> {
         if step.power {
             self.gauge.take(step.a, step.b);
         }
-        let state = self.state.next(&self.plate, step, &self.gauge);
         let reading = self.gauge.reading();
+        let state = self.state.next(&self.plate, step, reading);
         self.panel = self
             .panel
             .next(&self.plate, self.state.mode, &state, reading);

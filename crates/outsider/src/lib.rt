@@ -1,5 +1,7 @@
 // A gauge and a pump starter by another maker, written against the public contracts only. What this crate
 // shows: an own gauge, an own switch, and the monitor's promises for every run over them.
+#![tactic(auto)]
+
 mod dry;
 mod float_arm;
 mod run;

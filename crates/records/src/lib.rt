@@ -1,4 +1,6 @@
 // Step records: the 19 bytes that carry one step, their reader and their writer.
+#![tactic(auto)]
+
 mod fault;
 mod read;
 mod step;

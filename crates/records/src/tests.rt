@@ -12,6 +12,42 @@ const LAST: Step = Step {
     clock_failed: true,
 };
 
+// The number of the refusal, or 0 for a step.
+fn refusal(bytes: &[u8]) -> u8 {
+    match read_step(bytes, 0) {
+        Ok(_) => 0,
+        Err(fault) => fault.refusal.number(),
+    }
+}
+
+#[test]
+fn refuses_each_cause_in_the_tables_order(rt: HostRuntime) {
+    let mut bytes = [0xFF; 19];
+    assert_eq!(rt; refusal(&bytes[..18]), 1);
+    assert_eq!(rt; refusal(&bytes), 2);
+    bytes[0] = 0x57;
+    bytes[1] = 0x4C;
+    assert_eq!(rt; refusal(&bytes), 3);
+    bytes[2] = 31;
+    assert_eq!(rt; refusal(&bytes), 4);
+    bytes[3] = 0;
+    bytes[4] = 0;
+    bytes[5] = 0;
+    assert_eq!(rt; refusal(&bytes), 0);
+}
+
+#[test]
+fn refuses_places_past_the_end_and_near_the_largest_number(rt: HostRuntime) {
+    let bytes = b"WL\x01\0\0\0\0\0\0\0\0\0\0\0\0\0\0\0\0";
+    for place in [1, 19, 20, usize::MAX - 18, usize::MAX] {
+        let refusal = Refusal::Short;
+        assert_eq!(rt;
+            read_step(bytes, place),
+            Err(RecordFault { refusal, place })
+        );
+    }
+}
+
 #[test]
 fn reads_all_five_flags(rt: HostRuntime) {
     assert_eq!(rt; facts(1), Some([true, false, false, false, false]));
@@ -41,4 +77,11 @@ fn writes_then_reads_the_same_step(rt: HostRuntime) {
     let mut out = [0; 20];
     assert_eq!(rt; write_step(LAST, &mut out), Ok(19));
     assert_eq!(rt; read_step(&out, 0), Ok(LAST));
+}
+
+#[test]
+fn short_output_is_left_as_it_was(rt: HostRuntime) {
+    let mut out = [7; 18];
+    assert_eq!(rt; write_step(LAST, &mut out), Err(Refusal::Output));
+    assert_eq!(rt; out, [7; 18]);
 }

@@ -2,6 +2,8 @@
 // program. Standard input has runs: a header of four 32-bit numbers, high byte first (the kind of monitor, the
 // echo gauge's mount height as a float's bits, the rest in milliseconds, the number of records), and the
 // step records.
+#![tactic(auto)]
+
 use anyhow::anyhow;
 use control::Plate;
 use gauges::{Cell, Echo, Gauge, Pair};

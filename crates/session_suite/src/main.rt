@@ -1,6 +1,8 @@
 // Runs stored sessions through the monitor and prints what it answers, to be held against the reference
 // program. The arguments name the session files. A session file has a header of six 32-bit numbers, high
 // byte first: the plate's five and the length of the readout's output. Step records follow.
+#![tactic(auto)]
+
 use anyhow::anyhow;
 use control::{Plate, PlateNumbers};
 use gauges::Cell;

@@ -1,4 +1,6 @@
 // What the suite programs share: numbers in their inputs, and yes or no in their outputs.
+#![tactic(auto)]
+
 ghost use Rattle.std.specs.Prelude.{◌≡◌};
 ghost use Rattle.suite_input.specs.Words.{bit, word_at};
 

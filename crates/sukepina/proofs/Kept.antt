@@ -6,9 +6,9 @@ use Rattle.base.specs.Limits.{time_limit}
 use Rattle.control.specs.Button.{pressed, released}
 use Rattle.control.specs.Modes.{allok, is}
 use Rattle.control.specs.ModeTable.{next_mode}
-use Rattle.control.specs.Plate.{bad_reading, high, low, out_of_limits}
+use Rattle.control.specs.Plate.{high, low, out_of_limits}
 use Rattle.control.specs.State.{dark, operate}
-use Rattle.control.specs.Transition.{clock_fails, conditions, mode_after, moved, next_signal, next_state, started, worse}
+use Rattle.control.specs.Transition.{bad_reading, clock_fails, conditions, mode_after, moved, next_signal, next_state, started, worse}
 use Rattle.control.specs.declared.button.Button.{Button}
 use Rattle.control.specs.declared.mode.FailureMode.{FailureMode}
 use Rattle.control.specs.declared.mode.FailureMode.TheVariants.{Allok, Badlevdev, Hardfail}

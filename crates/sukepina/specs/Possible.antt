@@ -3,7 +3,7 @@ use Rattle.std.specs.Prelude.{ℕ, Bool, true, false, cond, not, ◌&&◌, ◌||
 use Rattle.base.specs.Limits.{time_limit}
 use Rattle.control.specs.Modes.{allok, is}
 use Rattle.control.specs.State.{operate, watched}
-use Rattle.control.specs.Plate.{bad_reading}
+use Rattle.control.specs.Transition.{bad_reading}
 use Rattle.control.specs.declared.button.Button.{Button}
 use Rattle.control.specs.declared.mode.Mode.TheVariants.{Dark, Operating, Shutdown}
 use Rattle.control.specs.declared.plate.Plate.{Plate}

@@ -1,4 +1,6 @@
 // The monitor for C and Rust: two configurations behind plain numbers in the caller's memory.
+#![tactic(auto)]
+
 mod calls;
 mod cell;
 mod cell_calls;

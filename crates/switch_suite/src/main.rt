@@ -1,6 +1,8 @@
 // Works switches of every kind by a script and prints what each call left, to be held against the reference
 // program. Standard input has 16-byte entries, numbers high byte first: the operation (4), an argument (8),
 // another (4).
+#![tactic(auto)]
+
 use base::Refusal;
 use std::alloc::Global;
 use std::io::{Read, Write};

@@ -8,7 +8,7 @@ abbrev pub rest_with : {S : Type 0} → S → RestTime → ℕ → Option ℕ �
 rest_with below rest last opening = record { below = below; rest = rest; last = last; opening = opening }
 
 abbrev pub new_rest : {S : Type 0} → S → RestTime → Rest S
-new_rest below rest = rest_with below rest 0 None
+new_rest below rest = record { below = below; rest = rest; last = 0; opening = None }
 
 -- the last tick is at least the rest after the opening tick, if there is one
 abbrev rested_since : Option ℕ → ℕ → ℕ → Bool

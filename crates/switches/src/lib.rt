@@ -1,5 +1,7 @@
 // Pump switches: what a switch promises (`Switch`), and the switches themselves.
 // This crate needs only `base`, so it can be shipped without gauges and monitor.
+#![tactic(auto)]
+
 mod closing;
 mod direct;
 mod drive;

@@ -1,4 +1,6 @@
 // Reads a session of step records from standard input and prints its report.
+#![tactic(auto)]
+
 use report::{SESSION_LIMIT, report};
 use std::io::{Read, Write};
 

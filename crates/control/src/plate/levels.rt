@@ -1,5 +1,6 @@
 ghost use Rattle.std.specs.Prelude.{◌≡◌};
-ghost use Rattle.control.specs.Plate.{bad_reading, past_mark, high, low, out_of_limits, settled};
+ghost use Rattle.control.specs.Transition.{bad_reading};
+ghost use Rattle.control.specs.Plate.{past_mark, high, low, out_of_limits, settled};
 
 use crate::plate::Plate;
 use gauges::Reading;

@@ -4,12 +4,12 @@ use Rattle.records.proofs.write.record_of.Goals as goal
 pub returns : goal.returns
 returns c =
     simp (
-      c.copy-from-slice.ensures.after,
-      c.copy-from-slice-2.ensures.after,
-      c.copy-from-slice-3.ensures.after,
-      c.to-be-bytes.ensures,
-      c.to-be-bytes-2.ensures,
-      c.to-be-bytes-3.ensures,
-      c.flags-of.ensures,
+      c.copy_from_slice.ensures.after,
+      c.copy_from_slice-2.ensures.after,
+      c.copy_from_slice-3.ensures.after,
+      c.to_be_bytes.ensures,
+      c.to_be_bytes-2.ensures,
+      c.to_be_bytes-3.ensures,
+      c.flags_of.ensures,
       div-div-eq-div-mul,
     )

@@ -3,11 +3,11 @@ use Rattle.sukepina.proofs.Cells.{cell_none, cell_one, cell_restored}
 use Rattle.sukepina.proofs.Serving.{no_monitor_call, served_call}
 use Rattle.sukepina.proofs.cell_calls.sukepina_cell_readout_raw.Goals as goal
 
-pub returns-then-not-is-cell-possible : goal.returns-then-not-is-cell-possible
-returns-then-not-is-cell-possible c =
-    no_monitor_call _ _ _ _ _ _ (cell_none _ c.in-Some.plate c.stands-for-monitor.result c.in-Some.ensures c.stands-for-monitor.ensures (sym c.if-not-is-cell-possible.ensures))
+pub returns-then-not-is_cell_possible : goal.returns-then-not-is_cell_possible
+returns-then-not-is_cell_possible c =
+    no_monitor_call _ _ _ _ _ _ (cell_none _ c.in-Some.plate c.stands_for-monitor.result c.in-Some.ensures c.stands_for-monitor.ensures (sym c.if-not-is_cell_possible.ensures))
 
 pub returns : goal.returns
 returns c =
-    let same = cell_restored _ c.in-Some.plate c.stands-for-monitor.result c.in-Some.ensures c.stands-for-monitor.ensures in
-    served_call _ _ _ _ _ cell_one (λ m can. can) _ c.stands-for-monitor.result same (sym c.if-not-is-cell-possible.ensures) _ c.readout.ensures _ (sym same)
+    let same = cell_restored _ c.in-Some.plate c.stands_for-monitor.result c.in-Some.ensures c.stands_for-monitor.ensures in
+    served_call _ _ _ _ _ cell_one (λ m can. can) _ c.stands_for-monitor.result same (sym c.if-not-is_cell_possible.ensures) _ c.readout.ensures _ (sym same)

@@ -18,10 +18,10 @@ pub returns : goal.returns
 returns c =
     let plate = c.in-Ok.plate in
     let new = c.in-Ok.ensures in
-    let made : c.set-up-monitor.result ≡ set_up direct nothing_taken (contact_at false) plate = cc in
+    let made : c.set_up-monitor.result ≡ set_up direct nothing_taken (contact_at false) plate = cc in
     record {
       refused = λ bad. absurd (false≢true (sym bad ∙ new.1));
       made = λ p e. (refl, c.new-4.ensures ∙ ap cell_numbers made ∙ ap (λ q. cell_numbers (set_up direct nothing_taken (contact_at false) q)) (same_plate plate p (new.0 ∙ sym e)));
-      leaves = λ _. (c.set-up-monitor.result, (sym c.new-4.ensures, ap cell_possible made ∙ cell_dark plate));
-      promises = λ p e. subst kept_by (same_plate plate p (new.0 ∙ sym e)) (subst (λ g. Promises cell direct plate g (set_up direct nothing_taken (contact_at false) plate)) c.new-2.ensures (subst (λ m. Promises cell direct plate c.new-2.result m) made c.set-up-monitor.ensures.promises));
+      leaves = λ _. (c.set_up-monitor.result, (sym c.new-4.ensures, ap cell_possible made ∙ cell_dark plate));
+      promises = λ p e. subst kept_by (same_plate plate p (new.0 ∙ sym e)) (subst (λ g. Promises cell direct plate g (set_up direct nothing_taken (contact_at false) plate)) c.new-2.ensures (subst (λ m. Promises cell direct plate c.new-2.result m) made c.set_up-monitor.ensures.promises));
     }

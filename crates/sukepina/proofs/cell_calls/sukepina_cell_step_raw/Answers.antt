@@ -7,12 +7,12 @@ use Rattle.sukepina.proofs.Steps.{step_kept}
 use Rattle.sukepina.proofs.cell_calls.sukepina_cell_step_raw.Goals as goal
 use Rattle.sukepina.specs.Cell.{cell_numbers, cell_possible}
 
-pub returns-then-not-is-cell-possible : goal.returns-then-not-is-cell-possible
-returns-then-not-is-cell-possible c =
-    no_monitor_call _ _ _ _ _ _ (cell_none _ c.in-Some.plate c.stands-for-monitor.result c.in-Some.ensures c.stands-for-monitor.ensures (sym c.if-not-is-cell-possible.ensures))
+pub returns-then-not-is_cell_possible : goal.returns-then-not-is_cell_possible
+returns-then-not-is_cell_possible c =
+    no_monitor_call _ _ _ _ _ _ (cell_none _ c.in-Some.plate c.stands_for-monitor.result c.in-Some.ensures c.stands_for-monitor.ensures (sym c.if-not-is_cell_possible.ensures))
 
 pub returns : goal.returns
 returns c =
-    let same = cell_restored _ c.in-Some.plate c.stands-for-monitor.result c.in-Some.ensures c.stands-for-monitor.ensures in
-    served_call _ _ _ _ _ cell_one (step_kept cell direct cell_possible cell_kept c.args.facts.now) _ c.stands-for-monitor.result same (sym c.if-not-is-cell-possible.ensures)
-    _ c.step_answer.ensures.value _ (c.new.ensures ∙ ap cell_numbers c.step_answer.ensures.after)
+    let same = cell_restored _ c.in-Some.plate c.stands_for-monitor.result c.in-Some.ensures c.stands_for-monitor.ensures in
+    served_call _ _ _ _ _ cell_one (step_kept cell direct cell_possible cell_kept c.args.facts.now) _ c.stands_for-monitor.result same (sym c.if-not-is_cell_possible.ensures)
+    _ c.step-answer.ensures.value _ (c.new.ensures ∙ ap cell_numbers c.step-answer.ensures.after)

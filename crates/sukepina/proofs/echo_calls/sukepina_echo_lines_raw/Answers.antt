@@ -8,12 +8,12 @@ use Rattle.sukepina.proofs.Steps.{batch_kept}
 use Rattle.sukepina.proofs.echo_calls.sukepina_echo_lines_raw.Goals as goal
 use Rattle.sukepina.specs.Echo.{echo_numbers, echo_possible}
 
-pub returns-then-not-is-echo-possible : goal.returns-then-not-is-echo-possible
-returns-then-not-is-echo-possible c =
-    no_monitor_call _ _ _ _ _ _ (echo_none _ c.in-Some.parts c.stands-for-monitor.result c.in-Some.ensures c.stands-for-monitor.ensures (sym c.if-not-is-echo-possible.ensures))
+pub returns-then-not-is_echo_possible : goal.returns-then-not-is_echo_possible
+returns-then-not-is_echo_possible c =
+    no_monitor_call _ _ _ _ _ _ (echo_none _ c.in-Some.parts c.stands_for-monitor.result c.in-Some.ensures c.stands_for-monitor.ensures (sym c.if-not-is_echo_possible.ensures))
 
 pub returns : goal.returns
 returns c =
-    let same = echo_restored _ c.in-Some.parts c.stands-for-monitor.result c.in-Some.ensures c.stands-for-monitor.ensures in
-    served_call _ _ _ _ _ echo_one (batch_kept echo (resting drive) echo_possible echo_kept c.args.bytes.now c.args.place.now c.args.out.now) _ c.stands-for-monitor.result same (sym c.if-not-is-echo-possible.ensures)
+    let same = echo_restored _ c.in-Some.parts c.stands_for-monitor.result c.in-Some.ensures c.stands_for-monitor.ensures in
+    served_call _ _ _ _ _ echo_one (batch_kept echo (resting drive) echo_possible echo_kept c.args.bytes.now c.args.place.now c.args.out.now) _ c.stands_for-monitor.result same (sym c.if-not-is_echo_possible.ensures)
     _ c.lines-answer.ensures.value _ (c.new.ensures ∙ ap echo_numbers c.lines-answer.ensures.after)

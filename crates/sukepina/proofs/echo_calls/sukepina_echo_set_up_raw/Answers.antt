@@ -25,8 +25,8 @@ returns c =
     let new-plate = c.in-Ok.ensures in
     let new-gauge = c.in-Ok-new.ensures in
     let new-time = c.in-Ok-new-2.ensures in
-    let made : c.set-up-monitor.result ≡ new_monitor plate gauge rest =
-    c.set-up-monitor.ensures.value
+    let made : c.set_up-monitor.result ≡ new_monitor plate gauge rest =
+    c.set_up-monitor.ensures.value
     ∙ ap (λ s. set_up (resting drive) gauge s plate) (c.new-switch.ensures ∙ ap (λ b. new_rest b rest) c.new-4.ensures)
     in
     record {
@@ -41,6 +41,6 @@ returns c =
           subst (λ q. Promises echo (resting drive) q g (new_monitor q g t)) (same_plate plate p (new-plate.0 ∙ sym ep))
           (subst (λ h. Promises echo (resting drive) plate h (new_monitor plate h t)) (same_echo gauge g (new-gauge.1 ∙ sym eg) (new-gauge.2 ∙ sym el))
           (subst (λ u. Promises echo (resting drive) plate gauge (new_monitor plate gauge u)) (same_rest rest t (new-time.0 ∙ sym et))
-          (subst (Promises echo (resting drive) plate gauge) made c.set-up-monitor.ensures.promises)));
-      leaves = λ _. (c.set-up-monitor.result, (sym c.new-5.ensures, ap echo_possible made ∙ echo_dark plate gauge rest new-gauge.2));
+          (subst (Promises echo (resting drive) plate gauge) made c.set_up-monitor.ensures.promises)));
+      leaves = λ _. (c.set_up-monitor.result, (sym c.new-5.ensures, ap echo_possible made ∙ echo_dark plate gauge rest new-gauge.2));
     }

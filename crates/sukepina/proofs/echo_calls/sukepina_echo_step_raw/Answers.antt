@@ -8,12 +8,12 @@ use Rattle.sukepina.proofs.Steps.{step_kept}
 use Rattle.sukepina.proofs.echo_calls.sukepina_echo_step_raw.Goals as goal
 use Rattle.sukepina.specs.Echo.{echo_numbers, echo_possible}
 
-pub returns-then-not-is-echo-possible : goal.returns-then-not-is-echo-possible
-returns-then-not-is-echo-possible c =
-    no_monitor_call _ _ _ _ _ _ (echo_none _ c.in-Some.parts c.stands-for-monitor.result c.in-Some.ensures c.stands-for-monitor.ensures (sym c.if-not-is-echo-possible.ensures))
+pub returns-then-not-is_echo_possible : goal.returns-then-not-is_echo_possible
+returns-then-not-is_echo_possible c =
+    no_monitor_call _ _ _ _ _ _ (echo_none _ c.in-Some.parts c.stands_for-monitor.result c.in-Some.ensures c.stands_for-monitor.ensures (sym c.if-not-is_echo_possible.ensures))
 
 pub returns : goal.returns
 returns c =
-    let same = echo_restored _ c.in-Some.parts c.stands-for-monitor.result c.in-Some.ensures c.stands-for-monitor.ensures in
-    served_call _ _ _ _ _ echo_one (step_kept echo (resting drive) echo_possible echo_kept c.args.facts.now) _ c.stands-for-monitor.result same (sym c.if-not-is-echo-possible.ensures)
-    _ c.step_answer.ensures.value _ (c.new.ensures ∙ ap echo_numbers c.step_answer.ensures.after)
+    let same = echo_restored _ c.in-Some.parts c.stands_for-monitor.result c.in-Some.ensures c.stands_for-monitor.ensures in
+    served_call _ _ _ _ _ echo_one (step_kept echo (resting drive) echo_possible echo_kept c.args.facts.now) _ c.stands_for-monitor.result same (sym c.if-not-is_echo_possible.ensures)
+    _ c.step-answer.ensures.value _ (c.new.ensures ∙ ap echo_numbers c.step-answer.ensures.after)

@@ -8,5 +8,5 @@ returns c =
     let piece = c.args.piece.now in
     record {
       start = omega arith;
-      text = before_end self.start (length piece) self.bytes _ piece (omega arith) (omega arith) c.copy-from-slice.ensures.after;
+      text = before_end self.start (length piece) self.bytes _ piece (omega arith) (omega arith) c.copy_from_slice.ensures.after;
     }

@@ -7,14 +7,14 @@ pub before-requires : goal.before-requires
 before-requires c =
     let fits : c.loop-left.left < 2 ^ 64 = search rules in
     let shorter = length_two c.loop-left.left c.loop-left-test.true fits in
-    (omega (arith, ap length c.two-digits.ensures), omega arith)
+    (omega (arith, ap length c.two_digits.ensures), omega arith)
 
 pub loop-left-preserved : goal.loop-left-preserved
 loop-left-preserved c =
     let fits : c.loop-left.left < 2 ^ 64 = search rules in
     let shorter = length_two c.loop-left.left c.loop-left-test.true fits in (
-      digits_more c.loop-left.left _ _ _ c.loop-left-test.true fits c.two-digits.ensures c.before-in-loop-left.ensures.text ∙ c.loop-left.invariant.0,
-      omega (arith, ap length c.two-digits.ensures),
+      digits_more c.loop-left.left _ _ _ c.loop-left-test.true fits c.two_digits.ensures c.before-in-loop-left.ensures.text ∙ c.loop-left.invariant.0,
+      omega (arith, ap length c.two_digits.ensures),
       omega arith,
       omega arith,
     )
@@ -22,7 +22,7 @@ loop-left-preserved c =
 pub before-requires-then-left-ge10 : goal.before-requires-then-left-ge10
 before-requires-then-left-ge10 c =
     let last = two_only c.loop-left.left c.if-left-ge10.true c.loop-left-test.false in
-    (omega (arith, ap length last, ap length c.two-digits-then-left-ge10.ensures), omega arith)
+    (omega (arith, ap length last, ap length c.two_digits-then-left-ge10.ensures), omega arith)
 
 pub before-requires-else-left-ge10 : goal.before-requires-else-left-ge10
 before-requires-else-left-ge10 c =
@@ -32,7 +32,7 @@ before-requires-else-left-ge10 c =
 pub returns-then-left-ge10 : goal.returns-then-left-ge10
 returns-then-left-ge10 c =
     let last = two_only c.loop-left.left c.if-left-ge10.true c.loop-left-test.false in
-    let both = c.two-digits-then-left-ge10.ensures ∙ sym last in
+    let both = c.two_digits-then-left-ge10.ensures ∙ sym last in
     record {
       start = omega (arith, ap length both);
       text = c.before-then-left-ge10.ensures.text ∙ ap (λ d. d ++ drop c.loop-left.self.start c.loop-left.self.bytes) both ∙ c.loop-left.invariant.0;

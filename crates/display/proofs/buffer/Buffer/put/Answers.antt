@@ -12,4 +12,4 @@ pub returns : goal.returns
 returns c =
     let text = c.args.self.now in
     let whole : length text.bytes ≡ 64 = search rules in
-    record { wrote = wrote_all _ text.bytes text.start whole refl c.args.out.now _ c.if-out-len.false c.copy-from-slice.ensures.after; suffices = λ h. refl }
+    record { wrote = wrote_all _ text.bytes text.start whole refl c.args.out.now _ c.if-out-len.false c.copy_from_slice.ensures.after; suffices = λ h. refl }

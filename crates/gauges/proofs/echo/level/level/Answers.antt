@@ -11,14 +11,14 @@ module _ (mount gap : Float) (ok : in_height (sub binary32 mount gap) ≡ true) 
   fields : let h = sub binary32 mount gap in Floor h (to_bits binary32 h / 8388608 % 256) (to_bits binary32 h % 8388608)
   fields = floor (sub binary32 mount gap) (sub-fits binary32 mount gap) ok
 
-pub overflow-sub-shift : goal.overflow-sub-shift
-overflow-sub-shift c = omega (arith, (fields c.args.mount c.args.gap c.requires).low)
+pub overflow_sub-shift : goal.overflow_sub-shift
+overflow_sub-shift c = omega (arith, (fields c.args.mount c.args.gap c.requires).low)
 
-pub returns-then-shift-gt-LAST-SHIFT : goal.returns-then-shift-gt-LAST-SHIFT
-returns-then-shift-gt-LAST-SHIFT c = let none = (fields c.args.mount c.args.gap c.requires).none (omega arith) in cc
+pub returns-then-shift-gt-LAST_SHIFT : goal.returns-then-shift-gt-LAST_SHIFT
+returns-then-shift-gt-LAST_SHIFT c = let none = (fields c.args.mount c.args.gap c.requires).none (omega arith) in cc
 
 pub returns : goal.returns
 returns c = let some = (fields c.args.mount c.args.gap c.requires).some (omega arith) in cc
 
-pub overflow-cast-result : goal.overflow-cast-result
-overflow-cast-result c = omega (arith, returns c, units_limit (sub binary32 c.args.mount c.args.gap) c.requires)
+pub overflow_cast-result : goal.overflow_cast-result
+overflow_cast-result c = omega (arith, returns c, units_limit (sub binary32 c.args.mount c.args.gap) c.requires)

@@ -11,5 +11,5 @@ no_nan : (a : ℕ) → lost a ≡ false → T (not (nan_bits binary32 a))
 unfolding nan_bits
 no_nan a h = holds _ (not_from_false _ (and_left _ _ (ap (λ (x : ℕ). eqb x 255) (field a 8 23) ∙ h)))
 
-pub float-from-bits-gap : goal.float-from-bits-gap
-float-from-bits-gap c = no_nan c.args.a (ne_eqb (c.args.a / 8388608 % 256) 255 (omega arith))
+pub float_from_bits-gap : goal.float_from_bits-gap
+float_from_bits-gap c = no_nan c.args.a (ne_eqb (c.args.a / 8388608 % 256) 255 (omega arith))

@@ -14,6 +14,6 @@ returns g c =
       closed_is_free = g.met.S.Switch.closed_is_free;
     } in
     record {
-      value = c.dark-monitor.ensures;
-      promises = subst (Promises gm sm x.plate x.gauge) (sym c.dark-monitor.ensures) (kept-promises gm sm laws x.plate x.gauge x.switch);
+      value = c.dark_monitor.ensures;
+      promises = subst (Promises gm sm x.plate x.gauge) (sym c.dark_monitor.ensures) (kept-promises gm sm laws x.plate x.gauge x.switch);
     }

@@ -16,10 +16,13 @@ same p q e f = λ i. record {
   ranged = is_prop→PathP (λ j. is_in_range (f j) ≡ true) (λ j. Bool-set (is_in_range (f j)) true) p.ranged q.ranged i;
 }
 
-pub invariant-of-self : goal.invariant-of-self
-invariant-of-self c =
+pub invariant_of-self : goal.invariant_of-self
+invariant_of-self c =
     let mounted = c.args.self.now.mounted in
-    (mounted, (subst (λ r. is_in_range r ≡ true) (sym c.reading-at-self.ensures) (echo_in_range _ _ mounted), tt))
+    record {
+      mounted = mounted;
+      ranged = subst (λ r. is_in_range r ≡ true) (sym c.reading_at-self.ensures) (echo_in_range _ _ mounted);
+    }
 
 pub returns : goal.returns
 returns c = same _ _ (cc) (cc)
