@@ -1,5 +1,5 @@
 -- The mode table, row by row. The first row that applies is taken; if none does, the mode stays.
-use Rattle.std.specs.Prelude.{ℕ, Bool, cond, not, ◌&&◌, ◌||◌, ltb, List, [], ◌∷◌, nat_le, nat_lt}
+use Rattle.std.specs.Prelude.{Bool, cond, not, ◌&&◌, ◌||◌, ltb, List, [], ◌∷◌, nat_le, nat_lt}
 use Rattle.control.specs.Modes.{is}
 use Rattle.control.specs.declared.mode.Mode.{Mode}
 use Rattle.control.specs.declared.mode.Mode.TheVariants.{Standby, Operating, Shutdown, Test}

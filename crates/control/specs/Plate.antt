@@ -1,5 +1,5 @@
 -- What a plate says of a reading. A faulty reading is none of these.
-use Rattle.std.specs.Prelude.{ℕ, ◌+◌, ◌-◌, Bool, false, ◌&&◌, ◌||◌, nat_le, nat_lt, refl}
+use Rattle.std.specs.Prelude.{◌+◌, ◌-◌, Bool, false, ◌&&◌, ◌||◌, nat_le, nat_lt, refl}
 use Rattle.gauges.specs.declared.reading.Reading.{Reading}
 use Rattle.gauges.specs.declared.reading.Reading.TheVariants.{Level, Faulty}
 use Rattle.control.specs.declared.plate.Plate.{Plate}

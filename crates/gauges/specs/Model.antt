@@ -2,7 +2,6 @@
 use Rattle.std.specs.Prelude.{ℕ, ◌≤◌, Bool, true, nat_le}
 use Rattle.base.specs.Limits.{level_limit}
 use Rattle.gauges.specs.declared.reading.Cause.{Cause}
-use Rattle.gauges.specs.declared.reading.Fault.{Fault}
 use Rattle.gauges.specs.declared.reading.Reading.{Reading}
 use Rattle.gauges.specs.declared.reading.Reading.TheVariants.{Level, Faulty}
 

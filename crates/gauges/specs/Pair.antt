@@ -1,5 +1,5 @@
 -- The pair of any two gauges.
-use Rattle.std.specs.Prelude.{ℕ, ◌+◌, ◌-◌, ◌/◌, min, cond, ◌||◌, nat_lt}
+use Rattle.std.specs.Prelude.{ℕ, ◌+◌, ◌/◌, min, cond, ◌||◌, nat_lt}
 use Rattle.gauges.specs.Model.{Model, fresh}
 use Rattle.gauges.specs.declared.pair.Pair.{Pair}
 use Rattle.gauges.specs.declared.reading.Cause.TheVariants.{Apart}

@@ -1,8 +1,7 @@
 -- Lower bounds on the times of the newest steps that are amiss, or out of limits and not settled since.
-use Rattle.std.proofs.Common.{◌≡◌, ℕ, ◌+◌, ◌<◌, ◌≤◌, Bool, true, false, not, ◌&&◌, ◌||◌, leb, List, [], ◌∷◌, refl, inl, inr, arith}
+use Rattle.std.proofs.Common.{◌≡◌, ℕ, ◌+◌, ◌≤◌, Bool, true, false, not, ◌&&◌, ◌||◌, leb, List, [], ◌∷◌, refl, inl, inr, arith}
 use Rattle.control.specs.Plate.{out_of_limits}
 use Rattle.control.specs.Plate as plate
-use Rattle.control.specs.PlateRules.{keeps_rules}
 use Rattle.control.specs.declared.plate.Plate.{Plate}
 use Rattle.gauges.specs.declared.reading.Reading.{Reading}
 use Rattle.gauges.specs.declared.reading.Reading.TheVariants.{Level, Faulty}

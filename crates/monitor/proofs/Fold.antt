@@ -11,14 +11,14 @@ use Rattle.control.specs.declared.button.Button.{Button}
 use Rattle.control.specs.declared.mode.FailureMode.{FailureMode}
 use Rattle.control.specs.declared.mode.FailureMode.TheVariants.{Allok}
 use Rattle.control.specs.declared.mode.Mode.{Mode}
-use Rattle.control.specs.declared.mode.Mode.TheVariants.{Dark, Standby, Operating, Shutdown, Test}
+use Rattle.control.specs.declared.mode.Mode.TheVariants.{Dark}
 use Rattle.control.specs.declared.mode.Signal.{Signal}
 use Rattle.control.specs.declared.mode_table.Conditions.{Conditions}
 use Rattle.control.specs.declared.plate.Plate.{Plate}
 use Rattle.control.specs.declared.state.State.{State}
 use Rattle.records.specs.declared.step.Step.{Step}
 use Rattle.monitor.specs.History.{Event}
-use Rattle.monitor.specs.Words.{began, button_time, faulty, faultless, ill_timed, is_fault, on, out, past, powered, reset_down, settled, shows_fault, start, test_down, time}
+use Rattle.monitor.specs.Words.{began, faulty, faultless, ill_timed, is_fault, on, past, powered, reset_down, shows_fault, start, test_down, time}
 use Rattle.monitor.proofs.Invariant.{ByMode, Sound, seen, test_at, to_mode}
 use Rattle.monitor.proofs.Logic.{allok_is, allok_worse, bad_is, key_moved, clean_parts, key_start, or_second, run_goes_on, same_cond, time_pressed, watched_unless}
 use Rattle.monitor.proofs.Moves.{Moves, moves, stays_dark, waits, resets, tests_standby, runs, shuts, tests_operating, stays_shut, recovers, gives_up, tests_shutdown, tests_on, tested}

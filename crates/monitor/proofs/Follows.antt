@@ -1,21 +1,19 @@
 -- The monitor follows the history, and so keeps the three promises.
-use Rattle.std.proofs.Common.{◌≡◌, ℕ, Bool, true, false, cond, ◌&&◌, ltb, List, [], ◌∷◌, Some, None, Ok, Err, Option, Result, sym, refl, ap, ◌∙◌, subst, inl, inr}
+use Rattle.std.proofs.Common.{◌≡◌, Bool, true, false, cond, ◌&&◌, ltb, List, [], ◌∷◌, Some, None, Ok, Err, Option, Result, sym, refl, ap, ◌∙◌, subst, inl, inr}
 use Rattle.base.specs.Limits.{time_limit}
-use Rattle.control.specs.State.{dark, drives}
+use Rattle.control.specs.State.{drives}
 use Rattle.control.specs.Transition.{next_state}
 use Rattle.control.specs.declared.plate.Plate.{Plate}
-use Rattle.control.specs.declared.state.State.{State}
 use Rattle.gauges.specs.Model as gauge
-use Rattle.gauges.specs.declared.reading.Reading.{Reading}
 use Rattle.records.specs.Record.{read_at}
 use Rattle.records.specs.declared.fault.RecordFault.{RecordFault}
 use Rattle.records.specs.declared.step.Step.{Step}
 use Rattle.std.specs.Result.{result_ok}
 use Rattle.switches.specs.Model as switch
-use Rattle.monitor.specs.Calls.{accepted, after_feed, after_step, gauge_after, set_up, with_record, worked}
+use Rattle.monitor.specs.Calls.{accepted, gauge_after, set_up, with_record, worked}
 use Rattle.monitor.specs.History.{Call, step, feed, readout, Event, accepted_steps, after_call, after_calls, brings, event, gauge_at, history, with_step}
-use Rattle.monitor.specs.Promises.{ClosedRightly, LongReset, Promises}
-use Rattle.monitor.specs.Words.{amiss, lasted, on}
+use Rattle.monitor.specs.Promises.{LongReset, Promises}
+use Rattle.monitor.specs.Words.{amiss, lasted}
 use Rattle.monitor.specs.declared.monitor.Monitor.{Monitor}
 use Rattle.monitor.proofs.Fold.{state_of}
 use Rattle.monitor.proofs.Held.{long_reset_drives, quiet_on}

@@ -1,18 +1,16 @@
 -- From a long reset to a driven pump.
-use Rattle.std.proofs.Common.{◌≡◌, ℕ, ◌+◌, ◌-◌, ◌<◌, ◌≤◌, Bool, true, false, cond, not, ◌&&◌, ◌||◌, leb, ◌⊎◌, List, [], ◌∷◌, sym, refl, ap, ◌∙◌, subst, inl, inr, arith}
-use Rattle.control.specs.Button.{pressed}
+use Rattle.std.proofs.Common.{◌≡◌, ℕ, ◌+◌, ◌-◌, ◌≤◌, true, false, not, ◌&&◌, ◌||◌, leb, ◌⊎◌, List, [], ◌∷◌, sym, refl, ap, ◌∙◌, subst, inl, inr, arith}
 use Rattle.control.specs.ModeTable.{next_mode}
 use Rattle.control.specs.Modes.{allok}
 use Rattle.control.specs.State.{drives, operate, watched}
-use Rattle.control.specs.Transition.{entered_after, moved, next_signal, next_state, started}
+use Rattle.control.specs.Transition.{entered_after, moved, next_signal, started}
 use Rattle.control.specs.declared.mode.FailureMode.TheVariants.{Allok}
-use Rattle.control.specs.declared.mode.Mode.{Mode}
 use Rattle.control.specs.declared.mode.Mode.TheVariants.{Operating}
 use Rattle.control.specs.declared.plate.Plate.{Plate}
 use Rattle.control.specs.declared.state.State.{State}
 use Rattle.monitor.specs.History.{Event}
 use Rattle.monitor.specs.Promises.{LongReset}
-use Rattle.monitor.specs.Words.{began, button_time, faultless, lasted, on, powered, quiet, quiet_reset, reset_down, settled, shows_fault, since, test_down, time}
+use Rattle.monitor.specs.Words.{began, faultless, on, powered, quiet, quiet_reset, reset_down, settled, shows_fault, since, test_down, time}
 use Rattle.monitor.proofs.Fold.{Kept, carried, kept, next_moved, next_started, reset_is', sound, state_of, well, well_before}
 use Rattle.monitor.proofs.Invariant.{seen}
 use Rattle.monitor.proofs.Logic.{same_cond, time_pressed}

@@ -1,5 +1,5 @@
 -- The recursive words mean what the plain words say, both ways.
-use Rattle.std.proofs.Common.{◌≡◌, ℕ, Bool, true, false, ◌&&◌, ◌||◌, List, [], ◌∷◌, ◌++◌, sym, refl, ap, ◌∙◌, subst, inl, inr, arith}
+use Rattle.std.proofs.Common.{◌≡◌, ℕ, Bool, true, false, ◌||◌, List, [], ◌∷◌, ◌++◌, sym, refl, ap, ◌∙◌, subst, inl, inr, arith}
 use Rattle.monitor.specs.History.{Event}
 use Rattle.monitor.specs.Meanings.{BeganMeans, Each, Ended, Found, LatelyMeans, Presses, oldest}
 use Rattle.monitor.specs.Words.{began, lately, time}

@@ -1,5 +1,5 @@
 -- The mode table as a relation: which row was taken, and what is known where none was.
-use Rattle.std.proofs.Common.{◌≡◌, ℕ, ◌<◌, ◌≤◌, Bool, true, false, cond, not, ◌&&◌, ltb, leb, refl, arith}
+use Rattle.std.proofs.Common.{◌≡◌, ◌<◌, ◌≤◌, true, false, not, ◌&&◌, ltb, leb, arith}
 use Rattle.std.proofs.lemmas.Bool.Decides.{nat_tests}
 use Rattle.control.specs.ModeTable.{next_mode}
 use Rattle.control.specs.declared.mode.Mode.{Mode}

@@ -1,21 +1,17 @@
 -- A long reset: after 14,500 ms of quiet steps with reset down the mode is operating, and letting go drives the pump.
-use Rattle.std.proofs.Common.{◌≡◌, ℕ, ◌+◌, ◌-◌, ◌<◌, ◌≤◌, Bool, true, false, cond, not, ◌&&◌, ◌||◌, leb, List, [], ◌∷◌, sym, refl, ap, ◌∙◌, subst, inl, inr, arith}
-use Rattle.control.specs.Button.{pressed}
-use Rattle.control.specs.ModeTable.{next_mode}
-use Rattle.control.specs.Modes.{allok, is}
-use Rattle.control.specs.State.{drives, operate, watched}
-use Rattle.control.specs.Transition.{next_signal}
+use Rattle.std.proofs.Common.{◌≡◌, ℕ, ◌+◌, ◌-◌, ◌<◌, ◌≤◌, true, false, cond, ◌&&◌, List, refl, inl, inr, arith}
+use Rattle.control.specs.Modes.{is}
 use Rattle.control.specs.declared.button.Button.{Button}
 use Rattle.control.specs.declared.mode.Mode.{Mode}
 use Rattle.control.specs.declared.mode.Mode.TheVariants.{Dark, Standby, Operating, Shutdown, Test}
 use Rattle.control.specs.declared.mode.Signal.{Signal}
 use Rattle.control.specs.declared.plate.Plate.{Plate}
 use Rattle.monitor.specs.History.{Event}
-use Rattle.monitor.specs.Words.{button_time, on, out, quiet, quiet_reset, reset_down, settled, since, shows_fault, test_down, time}
+use Rattle.monitor.specs.Words.{button_time, out, reset_down, settled, test_down, time}
 use Rattle.monitor.proofs.Bounds.{settled_in}
 use Rattle.monitor.proofs.Invariant.{ByMode, Sound, seen, test_at}
 use Rattle.monitor.proofs.Moves.{Moves, stays_dark, waits, resets, tests_standby, runs, shuts, tests_operating, stays_shut, recovers, gives_up, tests_shutdown, tests_on, tested}
-use Rattle.std.proofs.lemmas.Bool.{and_from, and_left, and_parts, both_ways, cases_Bool, cases_lt, cond-false, not-true}
+use Rattle.std.proofs.lemmas.Bool.{and_left, both_ways, cases_lt, cond-false}
 
 -- Where a long reset that began at r has led: to operating at last.
 abbrev pub Leads : ℕ → Mode → ℕ → ℕ → Type 0

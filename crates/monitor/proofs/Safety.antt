@@ -1,5 +1,5 @@
 -- A state that drives the pump: no fault, a reset let go since the trip, and no long spell of bad level.
-use Rattle.std.proofs.Common.{◌≡◌, ℕ, ◌+◌, ◌≤◌, Bool, true, false, ◌&&◌, List, [], ◌∷◌, sym, refl, ◌∙◌, subst, inl, inr, arith}
+use Rattle.std.proofs.Common.{◌≡◌, ℕ, true, false, List, [], ◌∷◌, sym, refl, ◌∙◌, subst, inl, inr, arith}
 use Rattle.control.specs.Modes.{allok}
 use Rattle.control.specs.State.{drives, operate, watched}
 use Rattle.control.specs.declared.button.Button.{Button}
@@ -9,9 +9,9 @@ use Rattle.control.specs.declared.mode.Signal.{Signal}
 use Rattle.control.specs.declared.plate.Plate.{Plate}
 use Rattle.monitor.specs.History.{Event}
 use Rattle.monitor.specs.Promises.{ClosedRightly}
-use Rattle.monitor.specs.Words.{amiss, faultless, lasted, let_go_since_trip, powered, since, time}
+use Rattle.monitor.specs.Words.{amiss, faultless, lasted, let_go_since_trip, powered, since}
 use Rattle.monitor.proofs.Bounds.{bad_bound}
-use Rattle.monitor.proofs.Fold.{Kept, kept, state_of, well}
+use Rattle.monitor.proofs.Fold.{kept, state_of, well}
 use Rattle.monitor.proofs.Invariant.{ByMode}
 use Rattle.std.proofs.lemmas.Bool.{and_from, and_parts, both_ways, cases_Bool}
 

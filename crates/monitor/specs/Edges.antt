@@ -15,7 +15,6 @@ use Rattle.gauges.specs.Cell.{cell_reading}
 use Rattle.gauges.specs.EchoWord.{echo_reading}
 use Rattle.gauges.specs.declared.reading.Reading.{Reading}
 use Rattle.gauges.specs.declared.reading.Reading.TheVariants.{Level, Faulty}
-use Rattle.records.specs.declared.step.Step.{Step}
 
 abbrev reads : Reading → ℕ → Bool
 reads (Level units) n = units == n

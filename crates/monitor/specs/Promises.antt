@@ -1,5 +1,5 @@
 -- The three promises over every run of calls on one monitor.
-use Rattle.std.specs.Prelude.{◌≡◌, ℕ, Bool, true, false, not, List, [], ◌∷◌, Some}
+use Rattle.std.specs.Prelude.{◌≡◌, ℕ, Bool, true, false, List, ◌∷◌, Some}
 use Rattle.control.specs.declared.plate.Plate.{Plate}
 use Rattle.gauges.specs.Model as gauge
 use Rattle.records.specs.declared.step.Step.{Step}

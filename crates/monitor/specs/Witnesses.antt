@@ -3,15 +3,12 @@
 use Rattle.std.specs.Prelude.{◌≡◌, ℕ, zero, suc, ◌+◌, ◌*◌, Bool, true, false, List, [], ◌∷◌}
 use Rattle.control.specs.Plate.{standard}
 use Rattle.gauges.specs.Cell.{cell, nothing_taken}
-use Rattle.gauges.specs.declared.cell.Cell.{Cell}
 use Rattle.records.specs.declared.step.Step.{Step}
 use Rattle.switches.specs.Direct.{contact_at, direct}
-use Rattle.switches.specs.declared.direct.DirectContact.{DirectContact}
 use Rattle.monitor.specs.Calls.{set_up}
 use Rattle.monitor.specs.History.{Call, Event, accepted_steps, after_calls, event, history, step}
 use Rattle.monitor.specs.Promises.{LongReset}
 use Rattle.monitor.specs.Words.{amiss, lasted}
-use Rattle.monitor.specs.declared.monitor.Monitor.{Monitor}
 
 -- a power-on step with that word, at that time, with reset down or up
 abbrev at : ℕ → ℕ → Bool → Step

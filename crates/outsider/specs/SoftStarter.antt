@@ -1,5 +1,5 @@
 -- The starter with a thermal cut-out.
-use Rattle.std.specs.Prelude.{ℕ, ◌+◌, Bool, true, false, cond, ◌&&◌, ◌||◌, nat_le}
+use Rattle.std.specs.Prelude.{ℕ, ◌+◌, true, false, cond, ◌&&◌, ◌||◌, nat_le}
 use Rattle.switches.specs.Model.{Model}
 use Rattle.outsider.specs.declared.soft_starter.SoftStarter.{SoftStarter}
 

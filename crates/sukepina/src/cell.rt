@@ -1,7 +1,7 @@
 ghost use Rattle.std.specs.Prelude.{◌≡◌};
 ghost use Rattle.sukepina.specs.Cell.{CellMonitor, CellPlate, cell_fits, cell_numbers, cell_possible, cell_with};
 
-use crate::core::{flag, is_flag, is_on};
+use crate::core_numbers::{flag, is_flag, is_on};
 use crate::maybe::{number_if, or_0_fits, or_else, there};
 use crate::numbers::{CellNumbers, CoreNumbers};
 use crate::possible::is_possible;

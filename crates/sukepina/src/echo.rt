@@ -1,7 +1,7 @@
 ghost use Rattle.std.specs.Prelude.{◌≡◌};
 ghost use Rattle.sukepina.specs.Echo.{EchoMade, EchoMonitor, Resting, cause_read, echo_fits, echo_numbers, echo_possible, echo_read, echo_with, fault_number, gauge_possible, level_number, opening_possible, reading_fits, reading_of, rest_possible, switch_possible, word_fits, word_of};
 
-use crate::core::is_on;
+use crate::core_numbers::is_on;
 use crate::maybe::{number_if, or_0_fits, or_else, there};
 use crate::numbers::{CoreNumbers, EchoNumbers};
 use crate::possible::is_possible;

@@ -4,7 +4,7 @@
 mod calls;
 mod cell;
 mod cell_calls;
-mod core;
+mod core_numbers;
 mod echo;
 mod echo_calls;
 mod maybe;

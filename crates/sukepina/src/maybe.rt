@@ -2,7 +2,7 @@
 ghost use Rattle.std.specs.Prelude.{◌≡◌};
 ghost use Rattle.sukepina.specs.Maybe.{number_if, or_0_fits, or_else, there};
 
-use crate::core::{is_flag, is_on};
+use crate::core_numbers::{is_flag, is_on};
 
 // 1 if there is a number.
 pub(crate) fn there<T: Copy>(number: Option<T>) -> u32

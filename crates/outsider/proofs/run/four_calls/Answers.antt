@@ -1,4 +1,4 @@
-use Rattle.std.proofs.Common.{◌≡◌, refl}
+use Rattle.std.proofs.Common.{refl}
 use Rattle.monitor.specs.History.{step, feed, readout}
 use Rattle.outsider.proofs.Runs.{begun, and_then, kept}
 use Rattle.outsider.proofs.run.four_calls.Goals as goal
