@@ -16,7 +16,7 @@ const STAGES_END: u64 = 13_000;
 
 const STAGE_TIME: u64 = 1_000;
 // 11.1 in tenths
-const STAGE_TENTHS: u32 = 111;
+const STAGE_TENTHS: u64 = 111;
 
 // The four characters that a state and the reading behind it show.
 pub(crate) fn figure(state: &State, reading: Reading) -> [u8; 4]
@@ -36,7 +36,7 @@ fn level_figure(reading: Reading) -> [u8; 4]
     ensures { result ≡ level_figure reading }
 {
     match reading {
-        Reading::Level(level) => tenths_figure(((level as u64 + HALF_TENTH) / TENTH) as u32),
+        Reading::Level(level) => tenths_figure((level as u64 + HALF_TENTH) / TENTH),
         Reading::Faulty(_) => *b"--.-",
     }
 }
@@ -45,22 +45,21 @@ fn test_figure(dwell: u64) -> [u8; 4]
     ensures { result ≡ test_figure dwell }
 {
     if STAGES_BEGIN <= dwell && dwell < STAGES_END {
-        tenths_figure(STAGE_TENTHS * ((dwell - STAGES_BEGIN) / STAGE_TIME) as u32)
+        tenths_figure(STAGE_TENTHS * ((dwell - STAGES_BEGIN) / STAGE_TIME))
     } else {
         tenths_figure(0)
     }
 }
 
 // Two digits, a point, one digit.
-fn tenths_figure(tenths: u32) -> [u8; 4]
+fn tenths_figure(tenths: u64) -> [u8; 4]
     ensures { result ≡ tenths_figure tenths }
 {
-    let ones = tenths / 10;
-    [digit(ones / 10), digit(ones), b'.', digit(tenths)]
+    [digit(tenths / 100), digit(tenths / 10), b'.', digit(tenths)]
 }
 
 // The last decimal digit of a number, as a character.
-fn digit(n: u32) -> u8
+fn digit(n: u64) -> u8
     ensures { result ≡ 48 + n % 10 }
 {
     b'0' + (n % 10) as u8

@@ -1,5 +1,5 @@
 -- What every accepted step keeps of a monitor's state and panel.
-use Rattle.std.proofs.Common.{◌≡◌, ℕ, ◌-◌, ◌≤◌, Bool, true, false, cond, not, ◌&&◌, ◌||◌, eqb, ltb, leb, List, get_or, sym, refl, ap, ◌∙◌, arith}
+use Rattle.std.proofs.Common.{◌≡◌, ℕ, ◌-◌, ◌≤◌, Bool, true, false, not, ◌&&◌, ◌||◌, eqb, ltb, leb, List, get_or, sym, refl, ap, arith}
 use Rattle.std.proofs.lemmas.Bool.{and_parts, and_from, cond_both, false≢true}
 use Rattle.std.proofs.lemmas.Bool.Decides.{nat_tests}
 use Rattle.base.specs.Limits.{time_limit}
@@ -26,7 +26,7 @@ use Rattle.display.specs.declared.panel.Panel.{Panel}
 use Rattle.display.specs.declared.warnings.Warnings.{Warnings}
 use Rattle.gauges.specs.declared.reading.Reading.{Reading}
 use Rattle.records.specs.declared.step.Step.{Step}
-use Rattle.sukepina.specs.Possible.{button_possible, core_possible, dark_possible, implies, panel_possible, reading_possible, same, same_figure, same_panel, same_warnings, signal_possible, state_possible, times_possible}
+use Rattle.sukepina.specs.Possible.{button_possible, dark_possible, implies, panel_possible, reading_possible, same, same_figure, same_warnings, signal_possible, state_possible, times_possible}
 
 abbrev Lit : Mode → Type 0
 Lit m = is m mode.Dark ≡ false

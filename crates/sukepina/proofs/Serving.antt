@@ -1,7 +1,7 @@
 -- A call served, and a call refused because no monitor can have the numbers.
 use Rattle.std.proofs.Common.{◌≡◌, Bool, true, false, sym, refl, ap, ◌∙◌}
 use Rattle.std.proofs.lemmas.Bool.{false≢true}
-use Rattle.sukepina.specs.Boundary.{Accepted, Call}
+use Rattle.sukepina.specs.Boundary.{Call}
 
 module _ {N M R : Type 0} (numbers : M → N) (possible : M → Bool) (unserved : R) (answer : M → R) (after : M → M) where
   pub no_monitor_call : (n : N) → ((m : M) → numbers m ≡ n → possible m ≡ false) → Call numbers possible unserved answer after n unserved n

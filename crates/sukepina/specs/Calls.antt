@@ -1,9 +1,9 @@
 -- What the calls of the boundary answer and do, over any gauge and any switch.
-use Rattle.std.specs.Prelude.{ℕ, ◌+◌, Bool, cond, ◌&&◌, List, ◌++◌, length, drop, Ok, Err, Result, nat_lt}
+use Rattle.std.specs.Prelude.{ℕ, Bool, cond, ◌&&◌, List, ◌++◌, length, drop, Ok, Err, Result, nat_lt}
 use Rattle.base.specs.Refusals.{refusal_number}
 use Rattle.base.specs.declared.refusal.Refusal.{Refusal}
 use Rattle.gauges.specs.Model as gauge
-use Rattle.monitor.specs.Calls.{accepted, feed_answer, line_of}
+use Rattle.monitor.specs.Calls.{accepted, feed_answer}
 use Rattle.monitor.specs.declared.monitor.Monitor.{Monitor}
 use Rattle.records.specs.Record.{flagged}
 use Rattle.records.specs.declared.fault.RecordFault.{RecordFault}

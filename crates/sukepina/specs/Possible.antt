@@ -1,5 +1,5 @@
 -- What every run of calls keeps of a monitor. Numbers that break this are no state that a monitor can have.
-use Rattle.std.specs.Prelude.{ℕ, Bool, true, false, cond, not, ◌&&◌, ◌||◌, List, ◌==◌, nat_le, slice_index}
+use Rattle.std.specs.Prelude.{ℕ, Bool, true, cond, not, ◌&&◌, ◌||◌, List, ◌==◌, nat_le, slice_index}
 use Rattle.base.specs.Limits.{time_limit}
 use Rattle.control.specs.Modes.{allok, is}
 use Rattle.control.specs.State.{operate, watched}
