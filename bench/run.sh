@@ -8,10 +8,9 @@ cd "$(dirname "$0")/.."
 build=target/bench
 mkdir -p "$build"
 
-library=${SUKEPINA_LIB:-target/staticlib/libsukepina.a}
-program=${WELLREPORT:-target/bin/wellreport}
-[ -e "$library" ] || rt staticlib sukepina > /dev/null
-[ -x "$program" ] || rt check wellreport > /dev/null
+library=${SUKEPINA_LIB:-crates/sukepina/out/libsukepina.a}
+program=${WELLREPORT:-crates/wellreport/out/wellreport}
+[ -e "$library" ] && [ -x "$program" ] || bash tests/build.sh > /dev/null
 
 rust="rustc --edition 2021 -C opt-level=3 --check-cfg cfg(hints)"
 $rust -C panic=abort -o "$build/wellreport" bench/wellreport.rs

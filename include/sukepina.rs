@@ -1,6 +1,6 @@
 //! Sukepina, the water level monitor: a safe Rust module over libsukepina.a. See docs/C_LIBRARY.md.
 //!
-//! `#[path = ".../sukepina.rs"] mod sukepina;`, and link with `-L target/staticlib`.
+//! `#[path = ".../sukepina.rs"] mod sukepina;`, and link with `-L crates/sukepina/out`.
 //! References are never null, misaligned or overlapping, and a slice is never longer than `isize::MAX`, so the
 //! library's functions can be called as they are.
 

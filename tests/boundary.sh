@@ -4,17 +4,17 @@
 # the reference program says. Then the table of hostile C calls.
 set -euo pipefail
 cd "$(dirname "$0")/.."
-[ -x target/bin/wellreport ] || rt check wellreport > /dev/null
-[ -e target/staticlib/libsukepina.a ] || rt staticlib sukepina > /dev/null
+program=crates/wellreport/out/wellreport
+library=crates/sukepina/out/libsukepina.a
+[ -x "$program" ] && [ -e "$library" ] || bash tests/build.sh > /dev/null
 
 build=$(mktemp -d)
 trap 'rm -rf "$build"' EXIT
-library=target/staticlib/libsukepina.a
 strict="-Wall -Wextra -Werror -pedantic -O2 -Iinclude"
 gcc -std=c99 $strict examples/session.c "$library" -o "$build/session_c"
 g++ -std=c++17 -x c++ $strict examples/session.c -x none "$library" -o "$build/session_cpp"
 gcc -std=c99 $strict examples/hostile.c "$library" -o "$build/hostile"
-rustc --edition 2021 -O -D warnings -L target/staticlib examples/session.rs -o "$build/session_rust"
+rustc --edition 2021 -O -D warnings -L crates/sukepina/out examples/session.rs -o "$build/session_rust"
 
 # No heap: the library calls nothing but memcpy.
 called=$(nm -u "$library" | sed -n 's/^ *U //p' | sort -u | tr '\n' ' ')
@@ -35,14 +35,14 @@ agrees() { # INPUT EXPECTED WAY..
 }
 
 for input in runs/*.bin "$build"/*.cell.bin; do
-    target/bin/wellreport < "$input" > "$build/expected"
+    "$program" < "$input" > "$build/expected"
     agrees "$input" "$build/expected" default batch
 done
 for input in "$build"/*.echo.bin; do
     agrees "$input" "${input%.bin}.txt" echo echo-batch
 done
 for input in "$build"/*.cell.bin; do
-    cmp <(target/bin/wellreport < "$input") "${input%.bin}.txt" || { echo "boundary: wellreport on $input differs"; exit 1; }
+    cmp <("$program" < "$input") "${input%.bin}.txt" || { echo "boundary: wellreport on $input differs"; exit 1; }
 done
 
 "$build/hostile"

@@ -2,8 +2,8 @@
 # Runs the built wellreport on the stored inputs of runs/ and on 10 MB, and compares what it prints.
 set -euo pipefail
 cd "$(dirname "$0")/.."
-program=target/bin/wellreport
-[ -x "$program" ] || { echo "wellreport is not built: run 'rt check wellreport'"; exit 1; }
+program=crates/wellreport/out/wellreport
+[ -x "$program" ] || bash tests/build.sh > /dev/null
 
 runs=0
 for input in runs/*.bin; do
