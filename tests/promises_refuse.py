@@ -26,11 +26,11 @@ CALLS_SPEC = "crates/monitor/specs/Calls.antt"
 CHANGES = {
     "a monitor that never closes": [
         ("crates/control/src/state.rt", "(Signal::Operate, Watchdog::Operate) => true,", "(Signal::Operate, Watchdog::Operate) => false,"),
-        ("crates/control/specs/State.antt", "drives st = operate (st .signal) && watched (st .watchdog)", "drives st = false"),
+        ("crates/control/specs/State.antt", "drives st = operate st.signal && watched st.watchdog", "drives st = false"),
     ],
     "a reset that need not be let go": [
         (TRANSITION, "FailureMode::Allok) if !reset => Signal::Operate,", "FailureMode::Allok) if !reset || reset => Signal::Operate,"),
-        (TRANSITION_SPEC, "in-allok mode.Operating reset old = cond reset old signal.Operate", "in-allok mode.Operating reset old = signal.Operate"),
+        (TRANSITION_SPEC, "in_allok mode.Operating reset old = cond reset old signal.Operate", "in_allok mode.Operating reset old = signal.Operate"),
     ],
     "a fault forgotten when the gauge recovers": [
         (TRANSITION, "        FailureMode::Allok if bad => FailureMode::Badlevdev,", "        FailureMode::Allok | FailureMode::Badlevdev if bad => FailureMode::Badlevdev,\n        FailureMode::Badlevdev => FailureMode::Allok,"),
@@ -42,44 +42,41 @@ CHANGES = {
     ],
     "a slow shutdown": [
         (TABLE, "const SHUTDOWN_TIME: u64 = 200;", "const SHUTDOWN_TIME: u64 = 3_000;"),
-        (TABLE_SPEC, "leb 200 (c .dwell)", "leb 3000 (c .dwell)"),
-        (TABLE_SPEC, "ltb (c .dwell) 200", "ltb (c .dwell) 3000"),
+        (TABLE_SPEC, "nat_le 200 c.dwell", "nat_le 3000 c.dwell"),
+        (TABLE_SPEC, "nat_lt c.dwell 200", "nat_lt c.dwell 3000"),
     ],
     "a test that lasts too long": [
         (TABLE, "const TEST_TIME: u64 = 14_000;", "const TEST_TIME: u64 = 20_000;"),
-        (TABLE_SPEC, "ltb 14000 (c .dwell)", "ltb 20000 (c .dwell)"),
+        (TABLE_SPEC, "ltb 14000 c.dwell", "ltb 20000 c.dwell"),
     ],
     "a watchdog fed by a refused step": [
         ("crates/monitor/src/step.rt", "            return Err(Refusal::Time);", "            self.state.time = step.time;\n            return Err(Refusal::Time);"),
-        (CALLS_SPEC, "after-step gm sm m s = cond (ltb time-limit (s .time)) m (accepted gm sm m s)", "after-step gm sm m s = cond (ltb time-limit (s .time)) (fed m s) (accepted gm sm m s)"),
-        (CALLS_SPEC, "abbrev pub after-step :", "abbrev fed : {G S : Type 0} → Monitor G S → Step → Monitor G S\nfed m s = record { gauge = m .gauge; switch = m .switch; plate = m .plate; state = record { mode = m .state .mode; failure = m .state .failure; signal = m .state .signal; watchdog = m .state .watchdog; time = s .time; entered = m .state .entered; reset = m .state .reset; test = m .state .test }; panel = m .panel }\n\nabbrev pub after-step :"),
+        (CALLS_SPEC, "after_step gm sm m s = cond (nat_lt time_limit s.time) m (accepted gm sm m s)", "after_step gm sm m s = cond (nat_lt time_limit s.time) (fed m s) (accepted gm sm m s)"),
+        (CALLS_SPEC, "abbrev pub after_step :", "abbrev fed : {G S : Type 0} → Monitor G S → Step → Monitor G S\nfed m s = record { gauge = m.gauge; switch = m.switch; plate = m.plate; state = record { mode = m.state.mode; failure = m.state.failure; signal = m.state.signal; watchdog = m.state.watchdog; time = s.time; entered = m.state.entered; reset = m.state.reset; test = m.state.test }; panel = m.panel }\n\nabbrev pub after_step :"),
     ],
     "a contact left closed at set-up": [
         ("crates/monitor/src/set_up.rt", "    switch.open();\n", ""),
         ("crates/monitor/src/set_up.rt", "    let mut switch = switch;\n", ""),
-        (CALLS_SPEC, "monitor-with g (sm .opened s) p", "monitor-with g s p"),
+        (CALLS_SPEC, "record { gauge = g; switch = sm.opened s; plate = p;", "record { gauge = g; switch = s; plate = p;"),
     ],
 }
 
 
 # A proof that the promises are false of the changed monitor, over a cell, a direct contact and the standard plate.
 COUNTER = "crates/monitor/proofs/Counter.antt"
-COUNTER_HEAD = """use Prim.Native.Nat.{ℕ, zero, suc, _+_, _*_}
-use mathlib.Core.Bool.{Bool, true, false}
-use mathlib.Core.List.{List, [], _∷_}
-use mathlib.Core.Path.{_≡_, refl}
-use Rattle·control.specs.Plate.{standard}
-use Rattle·gauges.specs.Cell.{cell, nothing-taken}
-use Rattle·records.specs.declared.step.Step.{Step}
-use Rattle·std.proofs.shelf.Tests.{both-ways}
-use Rattle·switches.specs.Direct.{contact-at, direct}
-use Rattle·monitor·specs.Calls.{set-up}
-use Rattle·monitor·specs.History.{Call, step}
-use Rattle·monitor·specs.Promises.{Promises}
+COUNTER_HEAD = """use Rattle.std.proofs.Common.{◌≡◌, ℕ, zero, suc, ◌+◌, ◌*◌, Bool, true, false, List, [], ◌∷◌, refl}
+use Rattle.control.specs.Plate.{standard}
+use Rattle.gauges.specs.Cell.{cell, nothing_taken}
+use Rattle.records.specs.declared.step.Step.{Step}
+use Rattle.std.proofs.lemmas.Bool.{both_ways}
+use Rattle.switches.specs.Direct.{contact_at, direct}
+use Rattle.monitor.specs.Calls.{set_up}
+use Rattle.monitor.specs.History.{Call, step}
+use Rattle.monitor.specs.Promises.{Promises}
 
 -- a power-on step: the word, the time, reset down, self test down
 abbrev at : ℕ → ℕ → Bool → Bool → Step
-at word t reset test = record { time = t; a = word; b = 0; power = true; reset = reset; «self_test» = test; «memory_failed» = false; «clock_failed» = false }
+at word t reset test = record { time = t; a = word; b = 0; power = true; reset = reset; self_test = test; memory_failed = false; clock_failed = false }
 
 -- calls at a settled level with reset down, each 400 ms, from t on
 abbrev held : List Call → ℕ → ℕ → List Call
@@ -94,43 +91,43 @@ abbrev flooded : ℕ → List Call
 flooded zero = running
 flooded (suc n) = step (at 240 (16600 + 400 * n) false false) ∷ flooded n
 
-refuted : Promises cell direct standard nothing-taken (set-up direct nothing-taken (contact-at true) standard) → ⊥
+refuted : Promises cell direct standard nothing_taken (set_up direct nothing_taken (contact_at true) standard) → ⊥
 """
 
 # A false statement: that it is refused shows that the file was read.
 COUNTER_TAIL = """
 
-control : _≡_ {A = Bool} false true
+control : ◌≡◌ {A = Bool} false true
 control = refl
 """
 
-LONG_RESET = "(record { held-long = refl; calm = refl; let-go = refl; no-fault = refl })"
+LONG_RESET = "(record { held_long = refl; calm = refl; let_go = refl; no_fault = refl })"
 
 COUNTERS = {
     "a monitor that never closes":
-        f"refuted ps = both-ways false refl (ps .closes (step (at 128 16200 false false)) (held [] 1000 37) (at 128 16200 false false) refl {LONG_RESET})",
+        f"refuted ps = both_ways false refl (ps.closes (step (at 128 16200 false false)) (held [] 1000 37) (at 128 16200 false false) refl {LONG_RESET})",
     "a reset that need not be let go":
-        "refuted ps = both-ways false refl (ps .closed-rightly (held [] 1000 8) refl .let-go)",
+        "refuted ps = both_ways false refl (ps.closed_rightly (held [] 1000 8) refl).let_go",
     "a fault forgotten when the gauge recovers":
-        "refuted ps = both-ways false refl (ps .closed-rightly (step (at 128 5000 false false) ∷ held (step (at 300 1000 false false) ∷ []) 1400 8) refl .no-fault)",
+        "refuted ps = both_ways false refl (ps.closed_rightly (step (at 128 5000 false false) ∷ held (step (at 300 1000 false false) ∷ []) 1400 8) refl).no_fault",
     "a self test held down that keeps the pump on":
-        "refuted ps = both-ways false refl (ps .closed-rightly (step (at 128 17400 false true) ∷ step (at 128 17000 false true) ∷ step (at 128 16600 false true) ∷ running) refl .let-go)",
+        "refuted ps = both_ways false refl (ps.closed_rightly (step (at 128 17400 false true) ∷ step (at 128 17000 false true) ∷ step (at 128 16600 false true) ∷ running) refl).let_go",
     "a slow shutdown":
-        "refuted ps = both-ways false refl (ps .closed-rightly (flooded 2) refl .let-go)\n\n"
-        "late : Promises cell direct standard nothing-taken (set-up direct nothing-taken (contact-at true) standard) → ⊥\n"
-        "late ps = both-ways true (ps .opens (flooded 8) refl) refl",
+        "refuted ps = both_ways false refl (ps.closed_rightly (flooded 2) refl).let_go\n\n"
+        "late : Promises cell direct standard nothing_taken (set_up direct nothing_taken (contact_at true) standard) → ⊥\n"
+        "late ps = both_ways true (ps.opens (flooded 8) refl) refl",
     "a test that lasts too long":
-        f"refuted ps = both-ways false refl (ps .closes (step (at 128 17400 false false)) (held (step (at 128 1800 false true) ∷ step (at 128 1400 false true) ∷ step (at 128 1000 false true) ∷ []) 2200 37) (at 128 17400 false false) refl {LONG_RESET})",
+        f"refuted ps = both_ways false refl (ps.closes (step (at 128 17400 false false)) (held (step (at 128 1800 false true) ∷ step (at 128 1400 false true) ∷ step (at 128 1000 false true) ∷ []) 2200 37) (at 128 17400 false false) refl {LONG_RESET})",
     "a watchdog fed by a refused step":
-        f"refuted ps = both-ways false refl (ps .closes (step (at 128 16200 false false)) (step (at 128 10000000000001 true false) ∷ held [] 1000 37) (at 128 16200 false false) refl {LONG_RESET})",
+        f"refuted ps = both_ways false refl (ps.closes (step (at 128 16200 false false)) (step (at 128 10000000000001 true false) ∷ held [] 1000 37) (at 128 16200 false false) refl {LONG_RESET})",
     "a contact left closed at set-up":
-        "refuted ps = both-ways false refl (ps .closed-rightly [] refl .no-fault)",
+        "refuted ps = both_ways false refl (ps.closed_rightly [] refl).no_fault",
 }
 
 
 def make_copy(folder: Path) -> None:
     for crate in LIBRARY:
-        shutil.copytree(ROOT / "crates" / crate, folder / "crates" / crate, ignore=shutil.ignore_patterns("must-fail"))
+        shutil.copytree(ROOT / "crates" / crate, folder / "crates" / crate, ignore=shutil.ignore_patterns("must-fail", "out"))
     lines = (ROOT / "crates.txt").read_text().splitlines()
     kept = [line for line in lines if line.split(":")[0] in LIBRARY]
     (folder / "crates.txt").write_text("\n".join(kept) + "\n")
@@ -145,7 +142,7 @@ def set_counter(folder: Path, proof: str) -> None:
 
 def check(folder: Path) -> tuple[bool, str]:
     """Is the monitor proved; and what the check said."""
-    run = subprocess.run(["rt", "dev", "monitor"], cwd=folder, capture_output=True, text=True)
+    run = subprocess.run(["rt", "check"], cwd=folder / "crates/monitor", capture_output=True, text=True)
     return run.returncode == 0, run.stdout + run.stderr
 
 
@@ -167,12 +164,14 @@ REFUTED = "refused, and the promise is refuted by a run"
 
 
 def judge(proved: bool, said: str) -> str:
-    lower = re.findall(r"rt: (\w+) NOT PROVED", said)
+    lower = re.findall(r"rt: the library (\w+) did not build", said)
     if proved:
         return "SURVIVED"
     if lower:
         return f"NOT SHOWN: refused below the monitor, in {lower[0]}"
-    errors = [line for line in said.splitlines() if COUNTER in line and ": error" in line]
+    if "rt: mend these first" in said:
+        return "NOT SHOWN: the changed code does not compile"
+    errors = [line for line in said.splitlines() if "proofs/Counter.antt:" in line and ": error" in line]
     others = [line for line in errors if "`control`" not in line]
     if others or not errors:
         return f"refused, but NOT REFUTED: {others[0][:300] if others else 'the counterexample was not read'}"
