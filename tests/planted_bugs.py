@@ -3,93 +3,71 @@
     python3 tests/planted_bugs.py [--outside] [CRATE ..]
 
 The bugs are crates/NAME/must-fail/*.edit, which the gate tries too, and planted/NAME/*.edit, which it leaves out;
-with --outside only the latter. An edit is refused if the prover finds a function that no longer meets its contract:
-one that does not even compile counts as a survivor. Prints the function refused; ends with status 1 if one survives.
-About 12 s each, two at a time.
+with --outside only the latter. `rt must-fail` tries them, a crate at a time, and its lines are printed. An edit is
+refused if the prover finds a function that no longer meets its contract: one that does not fit or compile, or that
+is refused only by a limit or for a name that a proof cites, counts as a survivor. Ends with status 1 if one survives.
+What an earlier run tried is not tried again until something changes that it stands on.
 """
 
-import os
-import queue
 import re
 import shutil
 import subprocess
 import sys
 import tempfile
-import threading
 from pathlib import Path
 
 ROOT = Path(__file__).resolve().parent.parent
-WORKERS = 2
-REFUSED = re.compile(r"^(?:fn|struct|impl) (\S+): (?:no proof|not proved)", re.MULTILINE)
+REFUSED = re.compile(r"^rt: must-fail \S+/(\S+)\.edit: refused, as it must be(?! \()", re.MULTILINE)
 
 
 def edits(outside, crates):
     """The edit files by crate."""
     places = ["planted/*/*.edit"] if outside else ["crates/*/must-fail/*.edit", "planted/*/*.edit"]
+    found = {}
     for pattern in places:
         for path in sorted(ROOT.glob(pattern)):
             crate = path.relative_to(ROOT).parts[1]
             if not crates or crate in crates:
-                yield crate, path
+                found.setdefault(crate, []).append(path)
+    return found
 
 
-def apply(text, path):
-    """The source with the bug in it. Each old text stands once."""
-    lines = path.read_text().splitlines()
-    olds = [line[5:] for line in lines if line.startswith("old: ")]
-    news = [line[5:] for line in lines if line.startswith("new:")]
-    for old, new in zip(olds, news):
-        if text.count(old) != 1:
-            raise SystemExit(f"{path}: the old text stands {text.count(old)} times")
-        text = text.replace(old, new)
-    return text
+def copied(folder):
+    """A copy of what a check reads, with no edits in it."""
+    shutil.copytree(ROOT / "crates", folder / "crates", ignore=shutil.ignore_patterns("out", "must-fail"))
+    for name in ["crates.txt", "HANDLES"]:
+        if (ROOT / name).exists():
+            shutil.copy(ROOT / name, folder)
 
 
-def refused_functions(copy, crate, path):
-    source = copy / "crates" / crate / path.read_text().splitlines()[0].removeprefix("file: ")
-    good = source.read_text()
-    source.write_text(apply(good, path))
-    try:
-        run = subprocess.run(["rt", "dev", crate], cwd=copy, capture_output=True, text=True, env={**os.environ, "RT_CUT": "0"})
-    finally:
-        source.write_text(good)
-    return REFUSED.findall(run.stdout + run.stderr) if run.returncode else []
-
-
-def work(copy, tasks, results):
-    while True:
-        try:
-            crate, path = tasks.get_nowait()
-        except queue.Empty:
-            return
-        functions = refused_functions(copy, crate, path)
-        results.append(bool(functions))
-        verdict = f"refused at {functions[0]}" if functions else "SURVIVED"
-        print(f"{crate}/{path.stem}: {verdict}", flush=True)
+def refused(folder, crate, paths):
+    """The names of the edits that are refused."""
+    place = folder / "crates" / crate / "must-fail"
+    place.mkdir()
+    for path in paths:
+        to = place / path.name
+        if to.exists() and to.read_text() != path.read_text():
+            raise SystemExit(f"{path}: another bug has this name")
+        shutil.copy(path, to)
+    run = subprocess.run(["rt", "must-fail", crate], cwd=folder, stdout=subprocess.PIPE, stderr=subprocess.STDOUT, text=True)
+    print(run.stdout, end="", flush=True)
+    return set(REFUSED.findall(run.stdout))
 
 
 def main():
     crates = [word for word in sys.argv[1:] if word != "--outside"]
-    tasks, results, threads = queue.Queue(), [], []
-    for task in edits("--outside" in sys.argv[1:], crates):
-        tasks.put(task)
+    count, survived = 0, []
     with tempfile.TemporaryDirectory() as folder:
-        for number in range(WORKERS):
-            copy = Path(folder) / str(number)
-            copy.mkdir()
-            for part in ["crates", "crates.txt", "target"]:
-                if (ROOT / part).is_dir():
-                    shutil.copytree(ROOT / part, copy / part, ignore=shutil.ignore_patterns("must-fail"))
-                elif (ROOT / part).exists():
-                    shutil.copy(ROOT / part, copy / part)
-            threads.append(threading.Thread(target=work, args=(copy, tasks, results)))
-        for thread in threads:
-            thread.start()
-        for thread in threads:
-            thread.join()
-    survived = results.count(False)
-    print(f"{len(results) - survived} refused, {survived} survived")
-    sys.exit(survived > 0)
+        copied(Path(folder))
+        for crate, paths in edits("--outside" in sys.argv[1:], crates).items():
+            names = {path.stem for path in paths}
+            left = names - refused(Path(folder), crate, paths)
+            count += len(names)
+            survived += [f"{crate}/{name}" for name in sorted(left)]
+    for name in survived:
+        print(f"{name}: SURVIVED")
+    print(f"{count - len(survived)} refused, {len(survived)} survived")
+    sys.exit(bool(survived))
 
 
 if __name__ == "__main__":
