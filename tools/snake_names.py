@@ -74,6 +74,8 @@ def main(words):
             print(name, table[name])
         print("kept, as the library or a goal has the name:", ", ".join(sorted(kept)))
         return
+    if not table:
+        return print("no name to turn")
     places = [(p, "--") for p in antt_files(root)]
     places += [(p, "//") for p in glob.glob(os.path.join(root, "crates/*/src/**/*.rt"), recursive=True)]
     places += [(p, "//") for p in glob.glob(os.path.join(root, "crates/*/must-fail/*.edit")) + glob.glob(os.path.join(root, "planted/*/*.edit"))]
