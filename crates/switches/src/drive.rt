@@ -2,7 +2,7 @@ ghost use Rattle.std.specs.Prelude.{◌≡◌};
 ghost use Rattle.switches.specs.Drive.{drive, word_at};
 ghost use Rattle.std.proofs.Common.{rules};
 
-use crate::closing::Closing;
+use crate::held::Held;
 use crate::switch::Switch;
 
 // The one word that closes the contact, and the word that an opening writes.
@@ -49,9 +49,9 @@ impl Switch for DriveWord {
         let _ = time;
     }
 
-    fn close(&mut self) -> Closing {
+    fn close(&mut self) -> Result<(), Held> {
         self.word = CLOSED_WORD;
-        Closing::Closed
+        Ok(())
     }
 
     fn open(&mut self) {
