@@ -6,9 +6,9 @@ use crate::held::Held;
 use crate::switch::Switch;
 
 // The one word that closes the contact, and the word that an opening writes.
-const CLOSED_WORD: u16 = 0x00FF;
+pub const CLOSED_WORD: u16 = 0x00FF;
 
-const OPEN_WORD: u16 = 0xFF00;
+pub const OPEN_WORD: u16 = 0xFF00;
 
 // A contact worked through a drive's control word. Every word but one means open. It is always free, and
 // ticks mean nothing to it.

@@ -10,7 +10,7 @@ mod rest_time;
 mod switch;
 
 pub use direct::DirectContact;
-pub use drive::DriveWord;
+pub use drive::{CLOSED_WORD, DriveWord, OPEN_WORD};
 pub use held::Held;
 pub use rest::Rest;
 pub use rest_time::RestTime;
