@@ -13,7 +13,7 @@ const SHUTDOWN_TIME: u64 = 200;
 const TEST_TIME: u64 = 14_000;
 
 // What one step tells the mode table.
-#[derive(Clone, Copy)]
+#[derive(Clone, Copy, PartialEq, Eq, Debug)]
 pub struct Conditions {
     // the time in mode
     pub dwell: u64,

@@ -5,7 +5,7 @@ use crate::button::Button;
 use crate::mode::{FailureMode, Mode, Signal, Watchdog};
 
 // What the monitor keeps from one accepted step to the next, apart from the display.
-#[derive(Clone, Copy)]
+#[derive(Clone, Copy, PartialEq, Eq, Debug)]
 pub struct State {
     pub mode: Mode,
     pub failure: FailureMode,

@@ -4,8 +4,8 @@ ghost use Rattle.display.specs.Pair.{pair};
 
 use base::Refusal;
 
-// The longest line: a time of 20 digits, two names of 9, and 26 bytes besides.
-pub(crate) const LINE_LEN: usize = 64;
+// Room for every line: the longest has a time of 20 digits, two names of 9, and 26 bytes besides.
+pub const LINE_LEN: usize = 64;
 
 // The numbers from 00 to 99.
 const PAIRS: [u8; 200] = *b"\

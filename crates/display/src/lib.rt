@@ -8,6 +8,7 @@ mod names;
 mod panel;
 mod warnings;
 
+pub use buffer::LINE_LEN;
 pub use line::{write_line, write_refusal};
 pub use panel::Panel;
 pub use warnings::Warnings;

@@ -7,7 +7,7 @@ use control::{Mode, Plate, State};
 use gauges::Reading;
 
 // The display as the last accepted step left it.
-#[derive(Clone, Copy)]
+#[derive(Clone, Copy, PartialEq, Eq, Debug)]
 pub struct Panel {
     pub warnings: Warnings,
     pub figure: [u8; 4],

@@ -13,7 +13,7 @@ const HIGH_TEST_END: u64 = 2_000;
 const LOW_TEST_END: u64 = 4_000;
 
 // The high window, the low window and the alarm: on, or audible, if true.
-#[derive(Clone, Copy)]
+#[derive(Clone, Copy, PartialEq, Eq, Debug)]
 pub struct Warnings {
     pub high: bool,
     pub low: bool,
