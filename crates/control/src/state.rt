@@ -40,9 +40,6 @@ impl State {
     pub fn drives(&self) -> bool
         ensures { result ≡ drives self.now }
     {
-        match (self.signal, self.watchdog) {
-            (Signal::Operate, Watchdog::Operate) => true,
-            _ => false,
-        }
+        self.signal == Signal::Operate && self.watchdog == Watchdog::Operate
     }
 }

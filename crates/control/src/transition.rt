@@ -13,7 +13,8 @@ use records::Step;
 const WATCHDOG_TIME: u64 = 500;
 
 impl State {
-    // The state after an accepted step; `reading` is the gauge's, once it has taken the step's words.
+    // The state after an accepted step; `reading` is the gauge's, once it has taken the step's words. The plate is not joined with it:
+    // that one stays, and the reading is new at each step.
     pub fn next(&self, plate: &Plate, step: Step, reading: Reading) -> State
         ensures { result ≡ next_state plate.now self.now step reading }
     {
@@ -79,7 +80,7 @@ impl State {
     fn next_watchdog(&self, time: u64) -> Watchdog
         ensures { result ≡ next_watchdog self.now time }
     {
-        if time >= self.time && time - self.time >= WATCHDOG_TIME {
+        if time.saturating_sub(self.time) >= WATCHDOG_TIME {
             Watchdog::Shut
         } else {
             self.watchdog

@@ -4,7 +4,6 @@
 mod buffer;
 mod figure;
 mod line;
-mod names;
 mod panel;
 mod warnings;
 

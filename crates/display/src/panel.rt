@@ -24,7 +24,8 @@ impl Panel {
         }
     }
 
-    // The display after a step that led from mode `before` to the state `after`.
+    // The display after a step that led from mode `before` to the state `after`. Plate and reading stay apart, since the figure
+    // shows the reading alone.
     pub fn next(&self, plate: &Plate, before: Mode, after: &State, reading: Reading) -> Panel
         ensures { result ≡ next_panel plate.now self.now before after.now reading }
     {
