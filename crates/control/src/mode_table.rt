@@ -17,7 +17,7 @@ const TEST_TIME: u64 = 14_000;
 pub struct Conditions {
     // the time in mode
     pub dwell: u64,
-    // self test is down, and its button time; apart, since the rows ask the one or the other, and never both
+    // self test is down, and its button time; not an Option, since each row asks the one or the other, and never both
     pub testing: bool,
     pub tested: u64,
     // the reset's button time

@@ -13,8 +13,8 @@ use records::Step;
 const WATCHDOG_TIME: u64 = 500;
 
 impl State {
-    // The state after an accepted step; `reading` is the gauge's, once it has taken the step's words. The plate is not joined with it:
-    // that one stays, and the reading is new at each step.
+    // The state after an accepted step; `reading` is the gauge's, once it has taken the step's words.
+    // Plate and reading are not joined in a struct: the one is the monitor's for good, the other new at each step.
     pub fn next(&self, plate: &Plate, step: Step, reading: Reading) -> State
         ensures { result ≡ next_state plate.now self.now step reading }
     {

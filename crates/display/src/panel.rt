@@ -1,7 +1,7 @@
 ghost use Rattle.std.specs.Prelude.{◌≡◌};
 ghost use Rattle.display.specs.Panel.{dark_panel, next_panel};
 
-use crate::figure::figure;
+use crate::figure::{BLANK, figure};
 use crate::warnings::Warnings;
 use control::{Mode, Plate, State};
 use gauges::Reading;
@@ -20,12 +20,12 @@ impl Panel {
     {
         Panel {
             warnings: Warnings::off(),
-            figure: *b"--.-",
+            figure: BLANK,
         }
     }
 
-    // The display after a step that led from mode `before` to the state `after`. Plate and reading stay apart, since the figure
-    // shows the reading alone.
+    // The display after a step that led from mode `before` to the state `after`.
+    // Plate and reading are not joined in a struct: the figure goes by the reading alone.
     pub fn next(&self, plate: &Plate, before: Mode, after: &State, reading: Reading) -> Panel
         ensures { result ≡ next_panel plate.now self.now before after.now reading }
     {
