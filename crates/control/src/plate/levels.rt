@@ -46,6 +46,7 @@ impl Plate {
         ensures { result ≡ settled self.now reading }
     {
         let n = self.numbers;
-        reading.is_ok_and(|level| level >= n.low_limit + n.hysteresis && level <= n.high_limit - n.hysteresis)
+        reading.is_ok_and(|level| level >= n.low_limit + n.hysteresis
+            && level <= n.high_limit - n.hysteresis)
     }
 }
