@@ -66,6 +66,7 @@ impl Buffer {
     }
 
     // Puts a number in decimal before what stands there: 20 digits at most.
+    #[tactic(auto, using(crate::proofs::Front::two_only, crate::proofs::Front::within, std::proofs::lemmas::Fmt::decimal_digit))]
     pub(crate) fn before_number(&mut self, number: u64)
         requires { 20 + length self.old ≤ 64 }
         ensures text { self.new ≡ decimal number ++ self.old }
@@ -86,6 +87,7 @@ impl Buffer {
 }
 
 // Both decimal digits of a number below 100.
+#[tactic(auto, using(crate::proofs::Pairs::pair_at))]
 fn two_digits(n: u64) -> [u8; 2]
     requires { n < 100 }
     ensures { result ≡ pair n }
