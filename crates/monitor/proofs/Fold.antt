@@ -21,7 +21,8 @@ use Rattle.monitor.specs.History.{Event}
 use Rattle.monitor.specs.Words.{began, faulty, faultless, ill_timed, is_fault, on, past, powered, reset_down, shows_fault, start, test_down, time}
 use Rattle.monitor.proofs.Invariant.{ByMode, Sound, seen, test_at, to_mode}
 use Rattle.monitor.proofs.Logic.{allok_is, allok_worse, bad_is, key_moved, clean_parts, key_start, or_second, run_goes_on, same_cond, time_pressed, watched_unless}
-use Rattle.monitor.proofs.Moves.{Moves, moves, stays_dark, waits, resets, tests_standby, runs, shuts, tests_operating, stays_shut, recovers, gives_up, tests_shutdown, tests_on, tested}
+use Rattle.monitor.proofs.Moves.{Moves, moves, not_dark, stays_dark, waits, resets, tests_standby, runs, shuts, tests_operating, stays_shut, recovers, gives_up, tests_shutdown, tests_on, tested}
+use Rattle.std.proofs.lemmas.Bool.Decides.{nat_tests}
 use Rattle.std.proofs.lemmas.Bool.{and_from, and_left, and_parts, and_right, both_ways, cases_Bool, cond_both, cond-false, cond-true, leb-false, not_from_false, not_from_true, not-true, or_parts}
 
 abbrev pub state_of : Plate → List Event → State
@@ -58,14 +59,12 @@ pub record Kept (p : Plate) (h : List Event) (st : State) : Type 0 where
 
 -- a step without power releases both buttons
 released_is : (f : Step → Bool) (e : Event) (h : List Event) → on e ≡ false → released (time e) ≡ button_of (down_at f) (e ∷ h)
-released_is f e h off =
-    let up = and_left (on e) (f e.step) off in
-    λ i. record { down = sym up i; since = sym (cond-false (down_at f e) (began (down_at f) h (time e)) (time e) up) i }
+released_is f e h off = grind (arith, nat_tests)
 
 -- no run of presses reaches back into the dark
 began_dark : (f : Step → Bool) (h : List Event) (t : ℕ) → powered h ≡ false → began (down_at f) h t ≡ t
 began_dark f [] t off = refl
-began_dark f (b ∷ h) t off = cond-false (down_at f b) (began (down_at f) h (time b)) t (and_left (on b) (f b.step) off)
+began_dark f (b ∷ h) t off = grind (arith, nat_tests)
 
 on_is : (e : Event) (b : Bool) → on e ≡ true → b ≡ (on e && b)
 on_is e b lit = ap (λ o. o && b) (sym lit)
@@ -73,22 +72,12 @@ on_is e b lit = ap (λ o. o && b) (sym lit)
 -- a button at a start, and at a later step
 started_is : (f : Step → Bool) (e : Event) (h : List Event) → on e ≡ true → powered h ≡ false
     → pressed (released (time e)) (f e.step) (time e) ≡ button_of (down_at f) (e ∷ h)
-started_is f e h lit off =
-    let now = same_cond (f e.step && false) (time e) in
-    let then-now = ap (λ b. cond (down_at f e) b (time e)) (began_dark f h (time e) off) ∙ same_cond (down_at f e) (time e) in
-    λ i. record { down = on_is e (f e.step) lit i; since = (now ∙ sym then-now) i }
+started_is f e h lit off = grind (arith, nat_tests, began_dark f h (time e) off)
 
 pressed_is : (f : Step → Bool) (e : Event) (h : List Event) (b : Button) → b ≡ button_of (down_at f) h → on e ≡ true
     → pressed b (f e.step) (time e) ≡ button_of (down_at f) (e ∷ h)
-pressed_is f e [] b was lit =
-    let none = ap (λ x. cond (f e.step && x.down) x.since (time e)) was in
-    let now = cond-false (f e.step && false) 0 (time e) (and_right (f e.step) false refl) ∙ sym (same_cond (down_at f e) (time e)) in
-    λ i. record { down = on_is e (f e.step) lit i; since = (none ∙ now) i }
-pressed_is f e (c ∷ h) b was lit =
-    let same = ap (λ x. cond (f e.step && x.down) x.since (time e)) was in
-    let goes = run_goes_on (f e.step) (down_at f c) (began (down_at f) h (time c)) (time c) (time e) in
-    let lit-now = ap (λ d. cond d (began (down_at f) (c ∷ h) (time e)) (time e)) (on_is e (f e.step) lit) in
-    λ i. record { down = on_is e (f e.step) lit i; since = (same ∙ goes ∙ lit-now) i }
+pressed_is f e [] b was lit = grind (arith, nat_tests)
+pressed_is f e (c ∷ h) b was lit = grind (arith, nat_tests)
 
 kept_dark : (p : Plate) (e : Event) (h : List Event) → on e ≡ false → Kept p (e ∷ h) (dark (time e))
 kept_dark p e h off =
@@ -127,22 +116,6 @@ kept_start p e h lit off =
 -- a button's run at a step began then at the latest
 pressed_by : (down : Bool) (b : Button) (now t : ℕ) → b.since ≤ now → now < t → (pressed b down t).since ≤ t
 pressed_by down b now t before later = cond_both (down && b.down) b.since t (λ x. x ≤ t) (λ _. omega arith) (λ _. omega arith)
-
--- no row leads into the dark
-not_dark : (c : Conditions) (m n : Mode) → Moves c m n → is m Dark ≡ false → is n Dark ≡ false
-not_dark c _ _ stays_dark d = d
-not_dark c _ _ (waits a b) d = refl
-not_dark c _ _ (resets a b e) d = refl
-not_dark c _ _ (tests_standby a) d = refl
-not_dark c _ _ (runs a b) d = refl
-not_dark c _ _ (shuts a b e) d = refl
-not_dark c _ _ (tests_operating a) d = refl
-not_dark c _ _ (stays_shut a b) d = refl
-not_dark c _ _ (recovers a b e) d = refl
-not_dark c _ _ (gives_up a) d = refl
-not_dark c _ _ (tests_shutdown a) d = refl
-not_dark c _ _ (tests_on a) d = refl
-not_dark c _ _ tested d = refl
 
 -- a power-on step e after a power-on step b: what the fold keeps
 module _ (p : Plate) (e b : Event) (g : List Event) (st : State) (lit : on e ≡ true) (was-lit : on b ≡ true) (k : Kept p (b ∷ g) st) where
@@ -196,7 +169,7 @@ module _ (p : Plate) (e b : Event) (g : List Event) (st : State) (lit : on e ≡
   lit_mode =
       let was : is st.mode Dark ≡ false = k.lit ∙ not_from_true (on b) was-lit in
       cond_both (allok failure') (next_mode st.mode conditions') st.mode (λ m. is m Dark ≡ false)
-      (λ _. not_dark conditions' st.mode (next_mode st.mode conditions') (moves conditions' st.mode) was) (λ _. was)
+      (λ _. not_dark conditions' st.mode was) (λ _. was)
 
   -- of a history that stays well
   module _ (w : well p (e ∷ (b ∷ g)) ≡ true) where
@@ -239,7 +212,7 @@ module _ (p : Plate) (e b : Event) (g : List Event) (st : State) (lit : on e ≡
         let Q : FailureMode → Conditions → Button → Type 0 = λ f c x. ByMode p (mode_after st f c) (e ∷ (b ∷ g)) (next_signal (mode_after st f c) f e.step.reset st.signal) (time e) (entered_after st (mode_after st f c) (time e)) x in
         let c = seen p (b ∷ g) e st.entered st.test in
         let at_c : Q Allok c (test_at st.test e) =
-        to_mode p (b ∷ g) e st.time st.signal st.test sound st.mode (next_mode st.mode c) st.entered (moves c st.mode) (k.by_mode well_before)
+        to_mode p (b ∷ g) e st.time st.test sound st.signal st.mode (next_mode st.mode c) st.entered (moves c st.mode) (k.by_mode well_before)
         in
         subst (λ f. Q f conditions' test') (sym all_ok) (subst (λ c'. Q Allok c' test') (sym seen_is) (subst (λ x. Q Allok c x) (sym test_seen) at_c))
 

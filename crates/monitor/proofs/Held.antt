@@ -136,7 +136,7 @@ drives_after p e b g long =
     let c = seen p (b ∷ g) e st.entered st.test in
     let n = next_mode st.mode c in
     let operating : n ≡ Operating =
-    arrives p (b ∷ g) e st.time st.entered st.test (sound p e b g st lit was k w) (quiet_calm p e (b ∷ g) long.calm) r st.mode n (moves c st.mode) (omega (arith, found.1, k.time_is)) l.leads
+    arrives p (b ∷ g) e st.time st.entered st.test (sound p e b g st lit was k w) (quiet_calm p e (b ∷ g) long.calm) r st.mode (omega (arith, found.1, k.time_is)) l.leads
     in
     let step_is = next_moved p e (b ∷ g) st k lit was in
     let operates : operate (moved p st e.step e.reading).signal ≡ true =

@@ -26,12 +26,11 @@ allok_worse Hardfail false bad = refl
 
 pub allok_is : (f : FailureMode) → allok f ≡ true → f ≡ Allok
 allok_is Allok a = refl
-allok_is Badlevdev a = let z : ◌≡◌ {A = ℕ} 0 1 = cc in absurd (omega arith)
-allok_is Hardfail a = let z : ◌≡◌ {A = ℕ} 0 1 = cc in absurd (omega arith)
+allok_is Badlevdev a = cc
+allok_is Hardfail a = cc
 
 pub watched_unless : (late : Bool) (w : Watchdog) → watched (cond late watchdog.Shut w) ≡ (not late && watched w)
-watched_unless true w = refl
-watched_unless false w = refl
+watched_unless late w = grind (arith, nat_tests)
 
 pub bad_is : (p : Plate) (r : Reading) → bad_reading p r ≡ (is_fault r || past_mark p r)
 bad_is p (Level u) = refl
@@ -50,17 +49,13 @@ key_moved o pw st mem clk back late flt pst f w fl lit going powers before = gri
 
 -- a run of presses goes on, or begins now
 pub run_goes_on : (d k : Bool) (b tc t : ℕ) → cond (d && k) (cond k b tc) t ≡ cond d (cond k b t) t
-run_goes_on true true b tc t = refl
-run_goes_on true false b tc t = refl
-run_goes_on false k b tc t = refl
+run_goes_on d k b tc t = grind (arith, nat_tests)
 
 pub same_cond : (b : Bool) (t : ℕ) → cond b t t ≡ t
-same_cond true t = refl
-same_cond false t = refl
+same_cond b t = grind (arith, nat_tests)
 
 pub time_pressed : (d : Bool) (b t : ℕ) → cond d (t - b) 0 ≡ t - cond d b t
-time_pressed true b t = refl
-time_pressed false b t = sym (sub_self t)
+time_pressed d b t = grind (arith, nat_tests)
 
 -- with power on, no fault: neither a faulty reading nor, past the start, an ill-timed step
 pub clean_parts : (o mem clk flt pst st ill : Bool) → o ≡ true → st ≡ false → (o && (mem || (clk || (flt || (pst || (not st && ill)))))) ≡ false
@@ -68,5 +63,8 @@ pub clean_parts : (o mem clk flt pst st ill : Bool) → o ≡ true → st ≡ fa
 clean_parts o mem clk flt pst st ill lit going none = (grind (arith, nat_tests), grind (arith, nat_tests))
 
 pub or_second : (a b : Bool) → a ≡ false → (a || b) ≡ true → b ≡ true
-or_second true b n y = let z : ◌≡◌ {A = ℕ} 0 1 = cc in absurd (omega arith)
-or_second false b n y = y
+or_second a b n y = grind (arith, nat_tests)
+
+-- what drives the pump has no fault
+pub still_well : (o f w y : Bool) → (o && w) ≡ true → (f ≡ false → o ≡ false) → (f && w) ≡ y → y ≡ true
+still_well o f w y drives silent key = grind (arith, nat_tests)

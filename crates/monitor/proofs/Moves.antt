@@ -2,6 +2,7 @@
 use Rattle.std.proofs.Common.{◌≡◌, ◌<◌, ◌≤◌, true, false, not, ◌&&◌, ltb, leb, arith}
 use Rattle.std.proofs.lemmas.Bool.Decides.{nat_tests}
 use Rattle.control.specs.ModeTable.{next_mode}
+use Rattle.control.specs.Modes.{is}
 use Rattle.control.specs.declared.mode.Mode.{Mode}
 use Rattle.control.specs.declared.mode.Mode.TheVariants.{Dark, Standby, Operating, Shutdown, Test}
 use Rattle.control.specs.declared.mode_table.Conditions.{Conditions}
@@ -57,3 +58,11 @@ module _ (c : Conditions) where
   moves Operating = from_operating
   moves Shutdown = from_shutdown
   moves Test = from_test
+
+  -- no row leads into the dark
+  pub not_dark : (m : Mode) → is m Dark ≡ false → is (next_mode m c) Dark ≡ false
+  not_dark Dark lit = lit
+  not_dark Standby lit = grind (arith, nat_tests)
+  not_dark Operating lit = grind (arith, nat_tests)
+  not_dark Shutdown lit = grind (arith, nat_tests)
+  not_dark Test lit = grind (arith, nat_tests)
