@@ -57,13 +57,11 @@ same_cond b t = grind (arith, nat_tests)
 pub time_pressed : (d : Bool) (b t : ℕ) → cond d (t - b) 0 ≡ t - cond d b t
 time_pressed d b t = grind (arith, nat_tests)
 
--- with power on, no fault: neither a faulty reading nor, past the start, an ill-timed step
-pub clean_parts : (o mem clk flt pst st ill : Bool) → o ≡ true → st ≡ false → (o && (mem || (clk || (flt || (pst || (not st && ill)))))) ≡ false
-    → (flt ≡ false) × (ill ≡ false)
-clean_parts o mem clk flt pst st ill lit going none = (grind (arith, nat_tests), grind (arith, nat_tests))
-
-pub or_second : (a b : Bool) → a ≡ false → (a || b) ≡ true → b ≡ true
-or_second a b n y = grind (arith, nat_tests)
+-- with power on and no fault, past the start: none before, and neither a faulty reading nor an ill-timed step
+pub clean_parts : (o mem clk flt pst st ill fl : Bool) → o ≡ true → st ≡ false
+    → (o && (not (o && (mem || (clk || (flt || (pst || (not st && ill)))))) && (st || fl))) ≡ true
+    → (fl ≡ true) × ((flt ≡ false) × (ill ≡ false))
+clean_parts o mem clk flt pst st ill fl lit going clean = grind (arith, nat_tests)
 
 -- what drives the pump has no fault
 pub still_well : (o f w y : Bool) → (o && w) ≡ true → (f ≡ false → o ≡ false) → (f && w) ≡ y → y ≡ true
