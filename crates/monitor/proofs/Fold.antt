@@ -18,7 +18,7 @@ use Rattle.control.specs.declared.plate.Plate.{Plate}
 use Rattle.control.specs.declared.state.State.{State}
 use Rattle.records.specs.declared.step.Step.{Step}
 use Rattle.monitor.specs.History.{Event}
-use Rattle.monitor.specs.Words.{began, faulty, faultless, ill_timed, is_fault, on, past, powered, reset_down, shows_fault, start, test_down, time}
+use Rattle.monitor.specs.Words.{began, button_time, faulty, faultless, ill_timed, is_fault, on, past, powered, reset_down, shows_fault, start, test_down, time}
 use Rattle.monitor.proofs.Invariant.{ByMode, Sound, seen, test_at, to_mode}
 use Rattle.monitor.proofs.Logic.{allok_is, allok_worse, bad_is, key_moved, clean_parts, key_start, run_goes_on, same_cond, time_pressed, watched_unless}
 use Rattle.monitor.proofs.Moves.{Moves, moves, not_dark, stays_dark, waits, resets, tests_standby, runs, shuts, tests_operating, stays_shut, recovers, gives_up, tests_shutdown, tests_on, tested}
@@ -56,6 +56,10 @@ pub record Kept (p : Plate) (h : List Event) (st : State) : Type 0 where
   pub test_by : well p h ≡ true → st.test.since ≤ st.time
   pub reset_by : well p h ≡ true → st.reset.since ≤ st.time
   pub by_mode : well p h ≡ true → ByMode p st.mode h st.signal st.time st.entered st.test
+
+-- how long it has been down
+pub time_down : (down : Event → Bool) (e : Event) (h : List Event) → button_time down e h ≡ time e - (button_of down (e ∷ h)).since
+time_down down e h = grind (arith, nat_tests)
 
 -- a step without power releases both buttons
 released_is : (f : Step → Bool) (e : Event) (h : List Event) → on e ≡ false → released (time e) ≡ button_of (down_at f) (e ∷ h)
@@ -102,7 +106,7 @@ kept_start p e h lit off =
     }
 
 -- a button's run at a step began then at the latest
-pressed_by : (down : Bool) (b : Button) (now t : ℕ) → b.since ≤ now → now < t → (pressed b down t).since ≤ t
+pub pressed_by : (down : Bool) (b : Button) (now t : ℕ) → b.since ≤ now → now < t → (pressed b down t).since ≤ t
 pressed_by down b now t before later = grind (arith, nat_tests)
 
 -- a power-on step e after a power-on step b: what the fold keeps

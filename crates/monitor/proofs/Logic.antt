@@ -66,3 +66,6 @@ clean_parts o mem clk flt pst st ill fl lit going clean = grind (arith, nat_test
 -- what drives the pump has no fault
 pub still_well : (o f w y : Bool) → (o && w) ≡ true → (f ≡ false → o ≡ false) → (f && w) ≡ y → y ≡ true
 still_well o f w y drives silent key = grind (arith, nat_tests)
+
+pub quiet_parts : (o f s t : Bool) → (o && (not f && (s && not t))) ≡ true → (s ≡ true) × (t ≡ false)
+quiet_parts o f s t quiet = (grind (arith, nat_tests), grind (arith, nat_tests))

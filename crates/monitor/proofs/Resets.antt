@@ -41,20 +41,20 @@ module _ (p : Plate) (h : List Event) (e : Event) (now entered : ℕ) (test : Bu
   not_long long = grind (arith, nat_tests)
 
   -- the first quiet step of it, at r
-  pub begins : (sig : Signal) (m n : Mode) → Moves (seen p h e entered test) m n → ByMode p m h sig now entered test → Leads (time e) n (time e) (cond (is n m) entered (time e))
-  begins sig _ _ stays_dark b = absurd b
-  begins sig _ _ (waits a c) b = omega arith
-  begins sig _ _ (resets a c d) b = tt
-  begins sig _ _ (tests_standby long) b = absurd (untested long)
-  begins sig _ _ (runs a c) b = tt
-  begins sig _ _ (shuts a c o) b = absurd (in_limits o)
-  begins sig _ _ (tests_operating long) b = absurd (untested long)
-  begins sig _ _ (stays_shut a recent) b = absurd (let loose = (recent q.up).1 in cc)
-  begins sig _ _ (recovers a c d) b = tt
-  begins sig _ _ (gives_up a) b = omega arith
-  begins sig _ _ (tests_shutdown long) b = absurd (untested long)
-  begins sig _ _ (tests_on short) b = grind arith
-  begins sig _ _ tested b = omega arith
+  pub begins : (r : ℕ) (sig : Signal) (m n : Mode) → Moves (seen p h e entered test) m n → time e ≡ r → ByMode p m h sig now entered test → Leads r n (time e) (cond (is n m) entered (time e))
+  begins r sig _ _ stays_dark here b = absurd b
+  begins r sig _ _ (waits a c) here b = omega arith
+  begins r sig _ _ (resets a c d) here b = tt
+  begins r sig _ _ (tests_standby long) here b = absurd (untested long)
+  begins r sig _ _ (runs a c) here b = tt
+  begins r sig _ _ (shuts a c o) here b = absurd (in_limits o)
+  begins r sig _ _ (tests_operating long) here b = absurd (untested long)
+  begins r sig _ _ (stays_shut a recent) here b = absurd (let loose = (recent q.up).1 in cc)
+  begins r sig _ _ (recovers a c d) here b = tt
+  begins r sig _ _ (gives_up a) here b = omega arith
+  begins r sig _ _ (tests_shutdown long) here b = absurd (untested long)
+  begins r sig _ _ (tests_on short) here b = grind arith
+  begins r sig _ _ tested here b = omega arith
 
   -- a further quiet step of it, with reset down since r or before
   pub goes_on : (r : ℕ) (m n : Mode) → Moves (seen p h e entered test) m n → time e ≤ r + button_time reset_down e h → Leads r m now entered → Leads r n (time e) (cond (is n m) entered (time e))
