@@ -1,13 +1,13 @@
 -- Lower bounds on the times of the newest steps that are amiss, or out of limits and not settled since.
-use Rattle.std.proofs.Common.{◌≡◌, ℕ, ◌+◌, ◌≤◌, Bool, true, false, not, ◌&&◌, ◌||◌, leb, List, [], ◌∷◌, refl, inl, inr, arith}
+use Rattle.std.proofs.Common.{◌≡◌, ℕ, ◌+◌, ◌≤◌, Bool, true, false, not, ◌&&◌, List, [], ◌∷◌, arith}
 use Rattle.control.specs.Plate.{out_of_limits}
 use Rattle.control.specs.Plate as plate
 use Rattle.control.specs.declared.plate.Plate.{Plate}
 use Rattle.gauges.specs.declared.reading.Reading.{Reading}
 use Rattle.gauges.specs.declared.reading.Reading.TheVariants.{Level, Faulty}
 use Rattle.monitor.specs.History.{Event}
-use Rattle.monitor.specs.Words.{amiss, on, out, out_before, settled, since, test_down, time}
-use Rattle.std.proofs.lemmas.Bool.{and_from, and_parts, and_right, or_cases, both_ways, leb-true, not-true}
+use Rattle.monitor.specs.Words.{amiss, out, out_before, settled, since, test_down, time}
+use Rattle.std.proofs.lemmas.Bool.{both_ways}
 use Rattle.std.proofs.lemmas.Bool.Decides.{nat_tests}
 
 -- a settled level is within its limits

@@ -1,12 +1,10 @@
 -- The state as a fold over the history, and what it keeps.
-use Rattle.std.proofs.Common.{◌≡◌, ℕ, ◌+◌, ◌-◌, ◌<◌, ◌≤◌, Bool, true, false, cond, not, ◌&&◌, ◌||◌, leb, ◌⊎◌, List, [], ◌∷◌, sym, refl, ap, ◌∙◌, subst, inl, inr, arith}
+use Rattle.std.proofs.Common.{◌≡◌, ℕ, ◌-◌, ◌<◌, ◌≤◌, Bool, true, false, cond, not, ◌&&◌, ◌||◌, ◌⊎◌, List, [], ◌∷◌, sym, refl, ap, ◌∙◌, subst, inl, inr, arith}
 use Rattle.control.specs.Button.{pressed, released}
 use Rattle.control.specs.ModeTable.{next_mode}
 use Rattle.control.specs.Modes.{allok, is}
-use Rattle.control.specs.Plate.{out_of_limits, past_mark}
-use Rattle.control.specs.Plate as plate
 use Rattle.control.specs.State.{dark, operate, watched}
-use Rattle.control.specs.Transition.{bad_reading, clock_fails, conditions, entered_after, late, mode_after, moved, next_signal, next_state, next_watchdog, started, worse}
+use Rattle.control.specs.Transition.{bad_reading, clock_fails, conditions, entered_after, mode_after, moved, next_signal, next_state, next_watchdog, started, worse}
 use Rattle.control.specs.declared.button.Button.{Button}
 use Rattle.control.specs.declared.mode.FailureMode.{FailureMode}
 use Rattle.control.specs.declared.mode.FailureMode.TheVariants.{Allok}
@@ -18,12 +16,12 @@ use Rattle.control.specs.declared.plate.Plate.{Plate}
 use Rattle.control.specs.declared.state.State.{State}
 use Rattle.records.specs.declared.step.Step.{Step}
 use Rattle.monitor.specs.History.{Event}
-use Rattle.monitor.specs.Words.{began, button_time, faulty, faultless, ill_timed, is_fault, on, past, powered, reset_down, shows_fault, start, test_down, time}
+use Rattle.monitor.specs.Words.{began, button_time, faulty, faultless, ill_timed, on, past, powered, reset_down, start, test_down, time}
 use Rattle.monitor.proofs.Invariant.{ByMode, Sound, seen, test_at, to_mode}
-use Rattle.monitor.proofs.Logic.{allok_is, allok_worse, bad_is, key_moved, clean_parts, key_start, run_goes_on, same_cond, time_pressed, watched_unless}
-use Rattle.monitor.proofs.Moves.{Moves, moves, not_dark, stays_dark, waits, resets, tests_standby, runs, shuts, tests_operating, stays_shut, recovers, gives_up, tests_shutdown, tests_on, tested}
+use Rattle.monitor.proofs.Logic.{allok_is, allok_worse, bad_is, key_moved, clean_parts, key_start, watched_unless}
+use Rattle.monitor.proofs.Moves.{moves, not_dark}
 use Rattle.std.proofs.lemmas.Bool.Decides.{nat_tests}
-use Rattle.std.proofs.lemmas.Bool.{and_from, and_left, and_parts, and_right, both_ways, cases_Bool, cond_both, cond-false, cond-true, leb-false, not_from_false, not_from_true, not-true, or_parts}
+use Rattle.std.proofs.lemmas.Bool.{and_from, and_parts, cases_Bool, cond_both, cond-false, not_from_true}
 
 abbrev pub state_of : Plate → List Event → State
 state_of p [] = dark 0

@@ -1,9 +1,7 @@
 -- From a long reset to a driven pump.
-use Rattle.std.proofs.Common.{◌≡◌, ℕ, ◌+◌, ◌-◌, ◌≤◌, Bool, true, false, not, ◌&&◌, ◌||◌, leb, ◌⊎◌, List, [], ◌∷◌, sym, refl, ap, ◌∙◌, subst, inl, inr, arith}
-use Rattle.control.specs.ModeTable.{next_mode}
-use Rattle.control.specs.Modes.{allok}
+use Rattle.std.proofs.Common.{◌≡◌, ℕ, ◌+◌, ◌-◌, ◌≤◌, Bool, true, false, ◌&&◌, leb, ◌⊎◌, List, [], ◌∷◌, sym, refl, ap, ◌∙◌, inl, inr, arith}
 use Rattle.control.specs.State.{drives, operate, watched}
-use Rattle.control.specs.Transition.{entered_after, moved, next_signal, started}
+use Rattle.control.specs.Transition.{moved, next_signal, started}
 use Rattle.control.specs.declared.mode.FailureMode.TheVariants.{Allok}
 use Rattle.control.specs.declared.mode.Mode.{Mode}
 use Rattle.control.specs.declared.mode.Mode.TheVariants.{Operating}
@@ -13,10 +11,10 @@ use Rattle.control.specs.declared.plate.Plate.{Plate}
 use Rattle.control.specs.declared.state.State.{State}
 use Rattle.monitor.specs.History.{Event}
 use Rattle.monitor.specs.Promises.{LongReset}
-use Rattle.monitor.specs.Words.{began, button_time, faultless, on, powered, quiet, quiet_reset, reset_down, settled, shows_fault, since, test_down, time}
+use Rattle.monitor.specs.Words.{on, powered, quiet, quiet_reset, reset_down, settled, shows_fault, since, test_down, time}
 use Rattle.monitor.proofs.Fold.{Kept, carried, kept, next_moved, next_started, pressed_by, reset_is', sound, state_of, time_down, well, well_before}
 use Rattle.monitor.proofs.Invariant.{Sound, seen}
-use Rattle.monitor.proofs.Logic.{quiet_parts, same_cond, time_pressed}
+use Rattle.monitor.proofs.Logic.{quiet_parts}
 use Rattle.monitor.proofs.Moves.{moves}
 use Rattle.monitor.proofs.Resets.{Calm, Leads, arrives, begins, goes_on}
 use Rattle.std.proofs.lemmas.Bool.Decides.{nat_tests}

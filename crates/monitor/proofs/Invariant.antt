@@ -1,5 +1,5 @@
 -- What each mode keeps, over powered histories without a fault, from one step to the next.
-use Rattle.std.proofs.Common.{◌≡◌, ℕ, ◌+◌, ◌-◌, ◌<◌, ◌≤◌, Bool, true, false, cond, not, ◌&&◌, ◌||◌, ltb, ◌⊎◌, List, ◌∷◌, refl, inl, inr, arith}
+use Rattle.std.proofs.Common.{◌≡◌, ℕ, ◌+◌, ◌-◌, ◌<◌, ◌≤◌, Bool, true, false, cond, ◌⊎◌, List, ◌∷◌, refl, inl, inr, arith}
 use Rattle.control.specs.Button.{pressed}
 use Rattle.control.specs.Modes.{is}
 use Rattle.control.specs.State.{operate}
@@ -12,11 +12,11 @@ use Rattle.control.specs.declared.mode.Signal.{Signal}
 use Rattle.control.specs.declared.mode_table.Conditions.{Conditions}
 use Rattle.control.specs.declared.plate.Plate.{Plate}
 use Rattle.monitor.specs.History.{Event}
-use Rattle.monitor.specs.Words.{amiss, began, button_time, faulty, full_reset, let_go_since_trip, level_trip, on, out, out_before, reset_down, reset_since_trip, settled, start, test_down, time, trip}
-use Rattle.monitor.proofs.Bounds.{BadFrom, HeadFine, OutsFrom, bad_none, bad_weaker, outs_bound, settled_in, untested_out}
+use Rattle.monitor.specs.Words.{amiss, button_time, faulty, let_go_since_trip, level_trip, on, out, reset_down, reset_since_trip, settled, start, test_down, time, trip}
+use Rattle.monitor.proofs.Bounds.{BadFrom, HeadFine, OutsFrom, bad_none, bad_weaker, outs_bound, settled_in}
 use Rattle.monitor.proofs.Moves.{Moves, stays_dark, waits, resets, tests_standby, runs, shuts, tests_operating, stays_shut, recovers, gives_up, tests_shutdown, tests_on, tested}
 use Rattle.std.proofs.lemmas.Bool.Decides.{nat_tests}
-use Rattle.std.proofs.lemmas.Bool.{and_from, and_left, and_parts, and_right, both_ways, cases_Bool, cond_both, cond-false, cond-true, le-ltb, lt-ltb, not_from_false, not_from_true, not-true, or_from, or_left, or_right}
+use Rattle.std.proofs.lemmas.Bool.{cases_Bool}
 
 -- A pump that may run, in operating or shutdown: a full reset since the last trip, let go if the signal is
 -- operate, and self test down for 500 ms at most.

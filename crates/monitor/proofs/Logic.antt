@@ -1,6 +1,5 @@
 -- Facts about tests alone, over variables.
-use Rattle.std.proofs.Common.{◌≡◌, ℕ, ◌-◌, Bool, true, false, cond, not, ◌&&◌, ◌||◌, sym, refl, arith}
-use native.Mathlib.Nat.{sub_self}
+use Rattle.std.proofs.Common.{◌≡◌, ℕ, ◌-◌, Bool, true, false, cond, not, ◌&&◌, ◌||◌, refl, arith}
 use Rattle.control.specs.Modes.{allok}
 use Rattle.control.specs.Plate.{past_mark}
 use Rattle.control.specs.State.{watched}

@@ -1,5 +1,5 @@
 -- A long reset: after 14,500 ms of quiet steps with reset down the mode is operating, and letting go drives the pump.
-use Rattle.std.proofs.Common.{◌≡◌, ℕ, ◌+◌, ◌-◌, ◌<◌, ◌≤◌, true, false, cond, ◌&&◌, List, refl, inl, inr, arith}
+use Rattle.std.proofs.Common.{◌≡◌, ℕ, ◌+◌, ◌-◌, ◌<◌, ◌≤◌, true, false, cond, List, refl, arith}
 use Rattle.control.specs.ModeTable.{next_mode}
 use Rattle.control.specs.Modes.{is}
 use Rattle.control.specs.declared.button.Button.{Button}
@@ -13,7 +13,6 @@ use Rattle.monitor.proofs.Bounds.{settled_in}
 use Rattle.monitor.proofs.Invariant.{ByMode, Sound, seen, test_at}
 use Rattle.monitor.proofs.Moves.{Moves, stays_dark, waits, resets, tests_standby, runs, shuts, tests_operating, stays_shut, recovers, gives_up, tests_shutdown, tests_on, tested}
 use Rattle.std.proofs.lemmas.Bool.Decides.{nat_tests}
-use Rattle.std.proofs.lemmas.Bool.{and_left, both_ways, cases_lt, cond-false}
 
 -- Where a long reset that began at r has led: to operating at last.
 abbrev pub Leads : ℕ → Mode → ℕ → ℕ → Type 0

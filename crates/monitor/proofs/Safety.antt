@@ -1,5 +1,5 @@
 -- A state that drives the pump: no fault, a reset let go since the trip, and no long spell of bad level.
-use Rattle.std.proofs.Common.{◌≡◌, ℕ, true, false, List, [], ◌∷◌, sym, refl, ◌∙◌, subst, inl, inr, arith}
+use Rattle.std.proofs.Common.{◌≡◌, ℕ, true, List, [], ◌∷◌, arith}
 use Rattle.control.specs.Modes.{allok}
 use Rattle.control.specs.State.{drives, operate, watched}
 use Rattle.control.specs.declared.button.Button.{Button}
@@ -16,7 +16,7 @@ use Rattle.monitor.proofs.Bounds.{bad_bound}
 use Rattle.monitor.proofs.Fold.{kept, state_of, well}
 use Rattle.monitor.proofs.Invariant.{ByMode}
 use Rattle.monitor.proofs.Logic.{still_well}
-use Rattle.std.proofs.lemmas.Bool.{and_from, and_parts, both_ways, cases_Bool}
+use Rattle.std.proofs.lemmas.Bool.{and_parts}
 
 let_go_by_mode : (p : Plate) (m : Mode) (h : List Event) (sig : Signal) (now entered : ℕ) (test : Button)
     → ByMode p m h sig now entered test → operate sig ≡ true → let_go_since_trip p h ≡ true
