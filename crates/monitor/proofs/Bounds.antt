@@ -1,10 +1,9 @@
 -- Lower bounds on the times of the newest steps that are amiss, or out of limits and not settled since.
-use Rattle.std.proofs.Common.{◌≡◌, ℕ, ◌+◌, ◌≤◌, Bool, true, false, not, ◌&&◌, List, [], ◌∷◌, arith}
+use Rattle.std.proofs.Common.{Ok, Err, ◌≡◌, ℕ, ◌+◌, ◌≤◌, Bool, true, false, not, ◌&&◌, List, [], ◌∷◌, arith}
 use Rattle.control.specs.Plate.{out_of_limits}
 use Rattle.control.specs.Plate as plate
 use Rattle.control.specs.declared.plate.Plate.{Plate}
-use Rattle.gauges.specs.declared.reading.Reading.{Reading}
-use Rattle.gauges.specs.declared.reading.Reading.TheVariants.{Level, Faulty}
+use Rattle.gauges.specs.Model.{Reading}
 use Rattle.monitor.specs.History.{Event}
 use Rattle.monitor.specs.Words.{amiss, out, out_before, settled, since, test_down, time}
 use Rattle.std.proofs.lemmas.Bool.{both_ways}
@@ -12,8 +11,8 @@ use Rattle.std.proofs.lemmas.Bool.Decides.{nat_tests}
 
 -- a settled level is within its limits
 pub settled_within : (p : Plate) (r : Reading) → plate.settled p r ≡ true → out_of_limits p r ≡ false
-settled_within p (Level u) s = let rules = p.ok in grind (arith, nat_tests)
-settled_within p (Faulty f) s = cc
+settled_within p (Ok u) s = let rules = p.ok in grind (arith, nat_tests)
+settled_within p (Err f) s = cc
 
 pub settled_in : (p : Plate) (e : Event) → settled p e ≡ true → out p e ≡ false
 settled_in p e s = grind (arith, nat_tests, settled_within)

@@ -1,5 +1,5 @@
 -- Facts about tests alone, over variables.
-use Rattle.std.proofs.Common.{◌≡◌, ℕ, ◌-◌, Bool, true, false, cond, not, ◌&&◌, ◌||◌, refl, arith}
+use Rattle.std.proofs.Common.{Ok, Err, ◌≡◌, ℕ, ◌-◌, Bool, true, false, cond, not, ◌&&◌, ◌||◌, refl, arith}
 use Rattle.control.specs.Modes.{allok}
 use Rattle.control.specs.Plate.{past_mark}
 use Rattle.control.specs.State.{watched}
@@ -9,8 +9,7 @@ use Rattle.control.specs.declared.mode.FailureMode.TheVariants.{Allok, Badlevdev
 use Rattle.control.specs.declared.mode.Watchdog.{Watchdog}
 use Rattle.control.specs.declared.mode.Watchdog.TheVariants as watchdog
 use Rattle.control.specs.declared.plate.Plate.{Plate}
-use Rattle.gauges.specs.declared.reading.Reading.{Reading}
-use Rattle.gauges.specs.declared.reading.Reading.TheVariants.{Level, Faulty}
+use Rattle.gauges.specs.Model.{Reading}
 use Rattle.monitor.specs.Words.{is_fault}
 use Rattle.std.proofs.lemmas.Bool.Decides.{nat_tests}
 
@@ -32,8 +31,8 @@ pub watched_unless : (late : Bool) (w : Watchdog) → watched (cond late watchdo
 watched_unless late w = grind (arith, nat_tests)
 
 pub bad_is : (p : Plate) (r : Reading) → bad_reading p r ≡ (is_fault r || past_mark p r)
-bad_is p (Level u) = refl
-bad_is p (Faulty f) = refl
+bad_is p (Ok u) = refl
+bad_is p (Err f) = refl
 
 -- the start's own faults decide
 pub key_start : (o st mem clk flt pst ill fl : Bool) → o ≡ true → st ≡ true

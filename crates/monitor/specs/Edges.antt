@@ -1,5 +1,5 @@
 -- The edges of the rules, one row each: on both sides of a limit, the definitions give these values.
-use Rattle.std.specs.Prelude.{ℕ, Bool, true, false, not, ◌&&◌, List, [], ◌∷◌, ◌==◌, from_bits}
+use Rattle.std.specs.Prelude.{Ok, Err, ℕ, Bool, true, false, not, ◌&&◌, List, [], ◌∷◌, ◌==◌, from_bits}
 use Rattle.std.specs.Float.{binary32}
 use Rattle.control.specs.Modes.{is}
 use Rattle.control.specs.Plate.{out_of_limits, past_mark, settled, standard}
@@ -13,16 +13,15 @@ use Rattle.control.specs.declared.state.State.{State}
 use Rattle.gauges.specs.Causes.{cause_number}
 use Rattle.gauges.specs.Cell.{cell_reading}
 use Rattle.gauges.specs.EchoWord.{echo_reading}
-use Rattle.gauges.specs.declared.reading.Reading.{Reading}
-use Rattle.gauges.specs.declared.reading.Reading.TheVariants.{Level, Faulty}
+use Rattle.gauges.specs.Model.{Reading}
 
 abbrev reads : Reading → ℕ → Bool
-reads (Level units) n = units == n
-reads (Faulty f) n = false
+reads (Ok units) n = units == n
+reads (Err f) n = false
 
 abbrev fault_is : Reading → ℕ → Bool
-fault_is (Level units) n = false
-fault_is (Faulty f) n = cause_number f.cause == n
+fault_is (Ok units) n = false
+fault_is (Err f) n = cause_number f.cause == n
 
 abbrev out : Reading → Bool
 out = out_of_limits standard

@@ -2,7 +2,7 @@
 use Rattle.std.specs.Prelude.{ℕ, cond, List, [], ◌∷◌, Some, None, Option, nat_lt}
 use Rattle.base.specs.Limits.{time_limit}
 use Rattle.gauges.specs.Model as gauge
-use Rattle.gauges.specs.declared.reading.Reading.{Reading}
+use Rattle.gauges.specs.Model.{Reading}
 use Rattle.records.specs.Record.{read_at}
 use Rattle.records.specs.declared.step.Step.{Step}
 use Rattle.std.specs.Result.{result_ok}

@@ -1,11 +1,10 @@
 -- The words of the promises. Each is said of an accepted step e and of the accepted steps h before it, the
 -- newest first.
-use Rattle.std.specs.Prelude.{ℕ, ◌+◌, ◌-◌, Bool, true, false, cond, not, ◌&&◌, ◌||◌, leb, List, [], ◌∷◌, nat_le, nat_lt}
+use Rattle.std.specs.Prelude.{Ok, Err, ℕ, ◌+◌, ◌-◌, Bool, true, false, cond, not, ◌&&◌, ◌||◌, leb, List, [], ◌∷◌, nat_le, nat_lt}
 use Rattle.control.specs.Plate.{past_mark, out_of_limits}
 use Rattle.control.specs.Plate as plate
 use Rattle.control.specs.declared.plate.Plate.{Plate}
-use Rattle.gauges.specs.declared.reading.Reading.{Reading}
-use Rattle.gauges.specs.declared.reading.Reading.TheVariants.{Level, Faulty}
+use Rattle.gauges.specs.Model.{Reading}
 use Rattle.monitor.specs.History.{Event}
 
 -- the step's time; power is on; a button is down with power on
@@ -23,8 +22,8 @@ test_down e = on e && e.step.self_test
 
 -- what the step's reading is; a step with power off has none
 abbrev pub is_fault : Reading → Bool
-is_fault (Level units) = false
-is_fault (Faulty f) = true
+is_fault (Ok units) = false
+is_fault (Err f) = true
 
 abbrev pub faulty : Event → Bool
 faulty e = on e && is_fault e.reading
