@@ -8,10 +8,11 @@ use Rattle.gauges.specs.Model as gauge
 use Rattle.records.specs.Record.{read_at}
 use Rattle.records.specs.declared.fault.RecordFault.{RecordFault}
 use Rattle.records.specs.declared.step.Step.{Step}
+use Rattle.std.specs.List.{cons_option}
 use Rattle.std.specs.Result.{result_ok}
 use Rattle.switches.specs.Model as switch
 use Rattle.monitor.specs.Calls.{accepted, gauge_after, set_up, with_record, worked}
-use Rattle.monitor.specs.History.{Call, step, feed, readout, Event, accepted_steps, after_call, after_calls, brings, event, gauge_at, history, with_step}
+use Rattle.monitor.specs.History.{Call, step, feed, readout, Event, accepted_steps, after_call, after_calls, brings, event, gauge_at, history}
 use Rattle.monitor.specs.Promises.{LongReset, Promises}
 use Rattle.monitor.specs.Words.{amiss, lasted}
 use Rattle.monitor.specs.declared.monitor.Monitor.{Monitor}
@@ -77,7 +78,7 @@ module _ {G S : Type 0} (gm : gauge.Model G) (sm : switch.Model S) where
           driven = λ c. rw (← next_is ss m s f) (and_parts s.power (drives st) (closed_if_worked (sm.ticked m.switch s.time) _ c)).1;
         }
 
-    follows_brought : (ss : List Step) (m : Monitor G S) (o : Option Step) → Follows ss m → Follows (with_step o ss) (with_brought m o)
+    follows_brought : (ss : List Step) (m : Monitor G S) (o : Option Step) → Follows ss m → Follows (cons_option o ss) (with_brought m o)
     follows_brought ss m None f = f
     follows_brought ss m (Some s) f = follows_step ss m s f
 

@@ -1,5 +1,5 @@
 -- Facts about tests alone, over variables.
-use Rattle.std.proofs.Common.{Ok, Err, ◌≡◌, ℕ, ◌-◌, Bool, true, false, cond, not, ◌&&◌, ◌||◌, refl, arith}
+use Rattle.std.proofs.Common.{Ok, Err, is_err, ◌≡◌, ℕ, ◌-◌, Bool, true, false, cond, not, ◌&&◌, ◌||◌, refl, arith}
 use Rattle.control.specs.Modes.{allok}
 use Rattle.control.specs.Plate.{past_mark}
 use Rattle.control.specs.State.{watched}
@@ -10,7 +10,6 @@ use Rattle.control.specs.declared.mode.Watchdog.{Watchdog}
 use Rattle.control.specs.declared.mode.Watchdog.TheVariants as watchdog
 use Rattle.control.specs.declared.plate.Plate.{Plate}
 use Rattle.gauges.specs.Model.{Reading}
-use Rattle.monitor.specs.Words.{is_fault}
 use Rattle.std.proofs.lemmas.Bool.Decides.{nat_tests}
 
 pub allok_worse : (f : FailureMode) (failed bad : Bool) → allok (worse f failed bad) ≡ (allok f && (not failed && not bad))
@@ -30,7 +29,7 @@ allok_is Hardfail a = cc
 pub watched_unless : (late : Bool) (w : Watchdog) → watched (cond late watchdog.Shut w) ≡ (not late && watched w)
 watched_unless late w = grind (arith, nat_tests)
 
-pub bad_is : (p : Plate) (r : Reading) → bad_reading p r ≡ (is_fault r || past_mark p r)
+pub bad_is : (p : Plate) (r : Reading) → bad_reading p r ≡ (is_err r || past_mark p r)
 bad_is p (Ok u) = refl
 bad_is p (Err f) = refl
 

@@ -14,6 +14,7 @@ use Rattle.gauges.specs.Causes.{cause_number}
 use Rattle.gauges.specs.Cell.{cell_reading}
 use Rattle.gauges.specs.EchoWord.{echo_reading}
 use Rattle.gauges.specs.Model.{Reading}
+use Rattle.monitor.specs.Witnesses.{at}
 
 abbrev reads : Reading → ℕ → Bool
 reads (Ok units) n = units == n
@@ -50,10 +51,7 @@ waiting = record {
 }
 
 abbrev held_until : ℕ → State
-held_until t =
-    next_state standard waiting
-    record { time = t; a = 128; b = 0; power = true; reset = true; self_test = false; memory_failed = false; clock_failed = false }
-    (cell_reading 128)
+held_until t = next_state standard waiting (at 128 t true) (cell_reading 128)
 
 abbrev pub edges : List Bool
 edges =
@@ -76,7 +74,3 @@ edges =
     -- in standby, reset time 3,000 stays; 3,001 leads to operating, the signal still shutdown
     ∷ (is (held_until 4000).mode Standby && (is (held_until 4001).mode Operating && not (operate (held_until 4001).signal)))
     ∷ []
-
-abbrev pub all_hold : List Bool → Bool
-all_hold [] = true
-all_hold (row ∷ rows) = row && all_hold rows
