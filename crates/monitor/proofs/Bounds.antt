@@ -6,7 +6,6 @@ use Rattle.control.specs.declared.plate.Plate.{Plate}
 use Rattle.gauges.specs.Model.{Reading}
 use Rattle.monitor.specs.History.{Event}
 use Rattle.monitor.specs.Words.{amiss, out, out_before, settled, since, test_down, time}
-use Rattle.std.proofs.lemmas.Bool.{both_ways}
 use Rattle.std.proofs.lemmas.Bool.Decides.{nat_tests}
 
 -- a settled level is within its limits
@@ -37,7 +36,7 @@ HeadFine p (e ∷ h) = amiss p e h ≡ false
 
 pub bad_none : (p : Plate) (x k : ℕ) (h : List Event) → HeadFine p h → BadFrom p x k h
 bad_none p x k [] f = tt
-bad_none p x k (e ∷ h) f = λ a. absurd (both_ways _ f a)
+bad_none p x k (e ∷ h) f = λ a. cc
 
 -- out of limits with self test up
 abbrev pub untested_out : Plate → Event → Bool

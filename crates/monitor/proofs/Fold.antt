@@ -1,5 +1,5 @@
 -- The state as a fold over the history, and what it keeps.
-use Rattle.std.proofs.Common.{◌≡◌, ℕ, ◌-◌, ◌<◌, ◌≤◌, Bool, true, false, cond, not, ◌&&◌, ◌||◌, ◌⊎◌, List, [], ◌∷◌, sym, refl, ap, ◌∙◌, subst, inl, inr, arith}
+use Rattle.std.proofs.Common.{◌≡◌, ℕ, ◌-◌, ◌<◌, ◌≤◌, Bool, true, false, cond, not, ◌&&◌, ◌||◌, ◌⊎◌, List, [], ◌∷◌, sym, refl, ◌∙◌, subst, inl, inr, arith}
 use Rattle.control.specs.Button.{pressed, released}
 use Rattle.control.specs.ModeTable.{next_mode}
 use Rattle.control.specs.Modes.{allok, is}
@@ -67,9 +67,6 @@ released_is f e h off = grind (arith, nat_tests)
 began_dark : (f : Step → Bool) (h : List Event) (t : ℕ) → powered h ≡ false → began (down_at f) h t ≡ t
 began_dark f [] t off = refl
 began_dark f (b ∷ h) t off = grind (arith, nat_tests)
-
-on_is : (e : Event) (b : Bool) → on e ≡ true → b ≡ (on e && b)
-on_is e b lit = ap (λ o. o && b) (sym lit)
 
 -- a button at a start, and at a later step
 started_is : (f : Step → Bool) (e : Event) (h : List Event) → on e ≡ true → powered h ≡ false

@@ -14,7 +14,7 @@ use Rattle.control.specs.declared.plate.Plate.{Plate}
 use Rattle.monitor.specs.History.{Event}
 use Rattle.monitor.specs.Words.{amiss, button_time, faulty, let_go_since_trip, level_trip, on, out, reset_down, reset_since_trip, settled, start, test_down, time, trip}
 use Rattle.monitor.proofs.Bounds.{BadFrom, HeadFine, OutsFrom, bad_none, bad_weaker, outs_bound, settled_in}
-use Rattle.monitor.proofs.Moves.{Moves, stays_dark, waits, resets, tests_standby, runs, shuts, tests_operating, stays_shut, recovers, gives_up, tests_shutdown, tests_on, tested}
+use Rattle.monitor.proofs.Moves.{Moves, stays_dark, waits, resets, tests, runs, shuts, stays_shut, recovers, gives_up, tests_on, tested}
 use Rattle.std.proofs.lemmas.Bool.Decides.{nat_tests}
 use Rattle.std.proofs.lemmas.Bool.{cases_Bool}
 
@@ -169,13 +169,11 @@ module _ (p : Plate) (h : List Event) (e : Event) (now : ℕ) (test : Button) (s
     to_mode _ _ entered stays_dark b = absurd b
     to_mode _ _ entered (waits short calm) b = refl
     to_mode _ _ entered (resets short long calm) b = resets_now short long calm b
-    to_mode _ _ entered (tests_standby long) b = grind arith
+    to_mode _ _ entered (tests other long) b = grind arith
     to_mode _ _ entered (runs short tested-only) b = runs_on short b tested-only
     to_mode _ _ entered (shuts short up o) b = shuts_now short b up
-    to_mode _ _ entered (tests_operating long) b = grind arith
     to_mode _ _ entered (stays_shut short recent) b = shuts_on entered short b (λ up. (recent up).0)
     to_mode _ _ entered (recovers short up calm) b = runs_settled calm (stays_ready sig operating b.ready short (settled_level calm) (how_operating e.step.reset sig))
     to_mode _ _ entered (gives_up up) b = refl
-    to_mode _ _ entered (tests_shutdown long) b = grind arith
     to_mode _ _ entered (tests_on short) b = grind arith
     to_mode _ _ entered tested b = refl

@@ -1,5 +1,5 @@
 -- Facts about tests alone, over variables.
-use Rattle.std.proofs.Common.{Ok, Err, is_err, ◌≡◌, ℕ, ◌-◌, Bool, true, false, cond, not, ◌&&◌, ◌||◌, refl, arith}
+use Rattle.std.proofs.Common.{Ok, Err, is_err, ◌≡◌, Bool, true, false, cond, not, ◌&&◌, ◌||◌, refl, arith}
 use Rattle.control.specs.Modes.{allok}
 use Rattle.control.specs.Plate.{past_mark}
 use Rattle.control.specs.State.{watched}
@@ -43,16 +43,6 @@ pub key_moved : (o pw st mem clk back late flt pst f w fl : Bool) → o ≡ true
     → ((f && (not (mem || (clk || back)) && not (flt || pst))) && (not late && w))
     ≡ (o && (not (o && (mem || (clk || ((o && flt) || ((o && pst) || (not st && (back || late))))))) && (st || fl)))
 key_moved o pw st mem clk back late flt pst f w fl lit going powers before = grind (arith, nat_tests)
-
--- a run of presses goes on, or begins now
-pub run_goes_on : (d k : Bool) (b tc t : ℕ) → cond (d && k) (cond k b tc) t ≡ cond d (cond k b t) t
-run_goes_on d k b tc t = grind (arith, nat_tests)
-
-pub same_cond : (b : Bool) (t : ℕ) → cond b t t ≡ t
-same_cond b t = grind (arith, nat_tests)
-
-pub time_pressed : (d : Bool) (b t : ℕ) → cond d (t - b) 0 ≡ t - cond d b t
-time_pressed d b t = grind (arith, nat_tests)
 
 -- with power on and no fault, past the start: none before, and neither a faulty reading nor an ill-timed step
 pub clean_parts : (o mem clk flt pst st ill fl : Bool) → o ≡ true → st ≡ false

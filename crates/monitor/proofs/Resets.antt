@@ -11,7 +11,7 @@ use Rattle.monitor.specs.History.{Event}
 use Rattle.monitor.specs.Words.{button_time, out, reset_down, settled, test_down, time}
 use Rattle.monitor.proofs.Bounds.{settled_in}
 use Rattle.monitor.proofs.Invariant.{ByMode, Sound, seen, test_at}
-use Rattle.monitor.proofs.Moves.{Moves, stays_dark, waits, resets, tests_standby, runs, shuts, tests_operating, stays_shut, recovers, gives_up, tests_shutdown, tests_on, tested}
+use Rattle.monitor.proofs.Moves.{Moves, stays_dark, waits, resets, tests, runs, shuts, stays_shut, recovers, gives_up, tests_on, tested}
 use Rattle.std.proofs.lemmas.Bool.Decides.{nat_tests}
 
 -- Where a long reset that began at r has led: to operating at last.
@@ -44,14 +44,12 @@ module _ (p : Plate) (h : List Event) (e : Event) (now entered : ℕ) (test : Bu
   begins r sig _ _ stays_dark here b = absurd b
   begins r sig _ _ (waits a c) here b = omega arith
   begins r sig _ _ (resets a c d) here b = tt
-  begins r sig _ _ (tests_standby long) here b = absurd (untested long)
+  begins r sig _ _ (tests other long) here b = absurd (untested long)
   begins r sig _ _ (runs a c) here b = tt
   begins r sig _ _ (shuts a c o) here b = absurd (in_limits o)
-  begins r sig _ _ (tests_operating long) here b = absurd (untested long)
   begins r sig _ _ (stays_shut a recent) here b = absurd (let loose = (recent q.up).1 in cc)
   begins r sig _ _ (recovers a c d) here b = tt
   begins r sig _ _ (gives_up a) here b = omega arith
-  begins r sig _ _ (tests_shutdown long) here b = absurd (untested long)
   begins r sig _ _ (tests_on short) here b = grind arith
   begins r sig _ _ tested here b = omega arith
 
@@ -60,14 +58,12 @@ module _ (p : Plate) (h : List Event) (e : Event) (now entered : ℕ) (test : Bu
   goes_on r _ _ stays_dark held l = absurd l
   goes_on r _ _ (waits a long) held l = omega (arith, not_long long)
   goes_on r _ _ (resets a c d) held l = tt
-  goes_on r _ _ (tests_standby long) held l = absurd (untested long)
+  goes_on r _ _ (tests other long) held l = absurd (untested long)
   goes_on r _ _ (runs a c) held l = tt
   goes_on r _ _ (shuts a c o) held l = absurd (in_limits o)
-  goes_on r _ _ (tests_operating long) held l = absurd (untested long)
   goes_on r _ _ (stays_shut a c) held l = absurd l
   goes_on r _ _ (recovers a c d) held l = tt
   goes_on r _ _ (gives_up a) held l = absurd l
-  goes_on r _ _ (tests_shutdown long) held l = absurd (untested long)
   goes_on r _ _ (tests_on short) held l = grind arith
   goes_on r _ _ tested held l = grind arith
 
