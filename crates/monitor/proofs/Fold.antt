@@ -86,13 +86,12 @@ kept_dark p e h off =
 
 kept_start : (p : Plate) (e : Event) (h : List Event) → on e ≡ true → powered h ≡ false → Kept p (e ∷ h) (started p e.step e.reading)
 kept_start p e h lit off =
-    let s = e.step in
     let starts : start e h ≡ true = grind (arith, nat_tests) in
     record {
       reset_is = started_is (λ s. s.reset) e h lit off;
       test_is = started_is (λ s. s.self_test) e h lit off;
       time_is = refl;
-      lit = sym (not_from_true (on e) lit);
+      lit = grind (arith, nat_tests);
       key = simp (allok_worse, bad_is) (key_start _ _ _ _ _ _ _ _ lit starts);
       silent = λ _. refl;
       test_by = λ _. grind (arith, nat_tests);
@@ -160,16 +159,9 @@ module _ (p : Plate) (e b : Event) (g : List Event) (st : State) (lit : on e ≡
     pub sound : Sound (b ∷ g) e st.time st.test
     sound =
         let pressed = k.test_by well_before in
+        let reads = parts.1.0 in
         let ill = parts.1.1 in
-        record {
-          lit = lit;
-          later = grind (arith, nat_tests);
-          soon = grind (arith, nat_tests);
-          reads = parts.1.0;
-          going = going;
-          pressed_by = pressed;
-          test_time = grind (arith, nat_tests);
-        }
+        grind (arith, nat_tests, going)
 
     all_ok : failure' ≡ Allok
     all_ok = allok_is failure' (and_parts (allok failure') _ (moved_key ∙ w)).0
@@ -194,7 +186,7 @@ module _ (p : Plate) (e b : Event) (g : List Event) (st : State) (lit : on e ≡
     reset_is = reset_is';
     test_is = test_is';
     time_is = refl;
-    lit = lit_mode ∙ sym (not_from_true (on e) lit);
+    lit = grind (arith, nat_tests, lit_mode);
     key = moved_key;
     silent = λ fails. grind (arith, nat_tests);
     test_by = λ w. pressed_by e.step.self_test st.test st.time (time e) (k.test_by (well_before w)) (sound w).later;
