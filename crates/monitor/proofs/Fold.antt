@@ -21,7 +21,7 @@ use Rattle.monitor.proofs.Invariant.{ByMode, Sound, seen, test_at, to_mode}
 use Rattle.monitor.proofs.Logic.{allok_is, allok_worse, bad_is, key_moved, clean_parts, key_start, watched_unless}
 use Rattle.monitor.proofs.Moves.{moves, not_dark}
 use Rattle.std.proofs.lemmas.Bool.Decides.{nat_tests}
-use Rattle.std.proofs.lemmas.Bool.{and_from, and_parts, cases_Bool, cond_both, cond-false, not_from_true}
+use Rattle.std.proofs.lemmas.Bool.{and_from, and_parts, cases_Bool, cond_both, cond-false}
 
 abbrev pub state_of : Plate → List Event → State
 state_of p [] = dark 0

@@ -1,6 +1,5 @@
 -- The monitor follows the history, and so keeps the three promises.
-use Rattle.std.proofs.Common.{◌≡◌, Bool, true, false, cond, ltb, List, [], ◌∷◌, Some, None, Ok, Err, Option, Result, refl, ap, ◌∙◌, arith}
-use Rattle.base.specs.Limits.{time_limit}
+use Rattle.std.proofs.Common.{◌≡◌, Bool, true, false, List, [], ◌∷◌, Some, None, Ok, Err, Option, Result, refl, ap, ◌∙◌, arith}
 use Rattle.control.specs.State.{drives}
 use Rattle.control.specs.Transition.{next_state}
 use Rattle.control.specs.declared.plate.Plate.{Plate}
@@ -34,16 +33,12 @@ module _ {G S : Type 0} (gm : gauge.Model G) (sm : switch.Model S) where
   with_brought m None = m
   with_brought m (Some s) = accepted gm sm m s
 
-  stepped_is : (m : Monitor G S) (s : Step) (refused : Bool) → cond refused m (accepted gm sm m s) ≡ with_brought m (cond refused None (Some s))
-  stepped_is m s true = refl
-  stepped_is m s false = refl
-
   fed_is : (m : Monitor G S) (r : Result Step RecordFault) → with_record gm sm m r ≡ with_brought m (result_ok r)
   fed_is m (Ok s) = refl
   fed_is m (Err e) = refl
 
   pub called_is : (m : Monitor G S) (c : Call) → after_call gm sm m c ≡ with_brought m (brings c)
-  called_is m (step s) = stepped_is m s (ltb time_limit s.time)
+  called_is m (step s) = grind (arith, nat_tests)
   called_is m (feed bytes place) = fed_is m (read_at bytes place)
   called_is m (readout out) = refl
 
@@ -93,8 +88,7 @@ module _ {G S : Type 0} (gm : gauge.Model G) (sm : switch.Model S) where
         state_is = refl;
         driven = λ c. absurd (both_ways _ (laws.open_opens s₀) c);
       }
-      follows (c ∷ cs) =
-          rw (called_is (at cs) c) (follows_brought (accepted_steps cs) (at cs) (brings c) (follows cs))
+      follows (c ∷ cs) = rw (called_is (at cs) c) (follows_brought (accepted_steps cs) (at cs) (brings c) (follows cs))
 
       opens_in_time : (cs : List Call) → lasted (amiss p) 2700 (seen_by (accepted_steps cs)) ≡ true → sm.contact (at cs).switch ≡ false
       opens_in_time cs bad = false_from_ne_true _ (λ closed. no_long_spell p (seen_by (accepted_steps cs)) bad ((follows cs).driven closed))
@@ -109,9 +103,7 @@ module _ {G S : Type 0} (gm : gauge.Model G) (sm : switch.Model S) where
           let st = next_state m.plate m.state s (gm.reading (gauge_after gm m.gauge s)) in
           let drive = ap drives (next_is ss m s (follows cs)) ∙ long_reset_drives p e (seen_by ss) long in
           let close = and_from _ _ (quiet_on p e (seen_by ss) long.calm) drive in
-          ap (λ x. sm.contact x.switch) (called_is m c ∙ ap (with_brought m) brought)
-          ∙ ap (λ b. sm.contact (worked sm (sm.ticked m.switch s.time) b)) close
-          ∙ closed_if_free (sm.ticked m.switch s.time)
+          rw (called_is m c, brought, close) (closed_if_free (sm.ticked m.switch s.time))
 
       pub promises : Promises gm sm p g (set_up sm g s₀ p)
       promises = record {

@@ -1,5 +1,5 @@
 -- The recursive words mean what the plain words say, both ways.
-use Rattle.std.proofs.Common.{◌≡◌, ℕ, Bool, true, List, [], ◌∷◌, ◌++◌, sym, refl, ap, ◌∙◌, inl, inr, arith}
+use Rattle.std.proofs.Common.{◌≡◌, ℕ, Bool, true, List, [], ◌∷◌, ◌++◌, sym, refl, inl, inr, arith}
 use Rattle.monitor.specs.History.{Event}
 use Rattle.monitor.specs.Meanings.{BeganMeans, Each, Ended, Found, LatelyMeans, Presses, oldest}
 use Rattle.monitor.specs.Words.{began, lately, time}
@@ -56,7 +56,7 @@ module _ (kept hit : Event → List Event → Bool) where
 pub lately_means : LatelyMeans
 lately_means kept hit h = (
   to_found kept hit h,
-  λ f. ap (lately kept hit) f.splits ∙ from_split kept hit f.newer f.step f.older f.hits f.keeps f.since,
+  λ f. rw f.splits (from_split kept hit f.newer f.step f.older f.hits f.keeps f.since),
 )
 
 module _ (down : Event → Bool) where
@@ -92,5 +92,5 @@ module _ (down : Event → Bool) where
 pub began_means : BeganMeans
 began_means down h t first = (
   to_presses down h t first,
-  λ p. ap (λ l. began down l t) p.splits ∙ from_run down p.run p.before t p.down_all p.ended ∙ sym p.first_is,
+  λ p. rw (p.splits, p.first_is) (from_run down p.run p.before t p.down_all p.ended),
 )
