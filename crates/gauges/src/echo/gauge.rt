@@ -7,7 +7,7 @@ ghost use Rattle.std.proofs.Common.{rules, arith};
 
 use crate::echo::Echo;
 use crate::echo::level::level;
-use crate::echo::word::{EchoWord, read_word};
+use crate::echo::word::gap_at;
 use crate::gauge::Gauge;
 use crate::reading::{Cause, Reading, fresh_fault};
 use base::Refusal;
@@ -56,11 +56,8 @@ impl Echo {
     fn reading_at(&self, a: u32) -> Reading
         ensures { result ≡ echo_reading self.now.mount a }
     {
-        match read_word(a, self.mount) {
-            EchoWord::Gap(gap) => Reading::Level(level(self.mount, gap)),
-            EchoWord::Lost => fresh_fault(Cause::Lost),
-            EchoWord::OutOfReach(_) => fresh_fault(Cause::Reach),
-        }
+        let gap = gap_at(a, self.mount)?;
+        Ok(level(self.mount, gap))
     }
 }
 
@@ -74,8 +71,8 @@ fn is_in_range(reading: Reading) -> bool
     ensures { result ≡ is_in_range reading }
 {
     match reading {
-        Reading::Level(level) => level <= LEVEL_LIMIT,
-        Reading::Faulty(_) => true,
+        Ok(level) => level <= LEVEL_LIMIT,
+        Err(_) => true,
     }
 }
 
