@@ -8,10 +8,9 @@ use std::alloc::Global;
 use std::io::{self, Read};
 
 // All that a reader has left.
-pub fn read_all<R: Read + Drop>(heap: Global, reader: R) -> io::Result<Vec<u8>>
+pub fn read_all<R: Read + Drop>(heap: Global, mut reader: R) -> io::Result<Vec<u8>>
     ensures { IfOk result (λ v. IfSome (R.remaining reader) (λ bytes. v.items ≡ bytes)) }
 {
-    let mut reader = reader;
     let mut bytes = Vec::new(heap);
     reader.read_to_end(&mut bytes)?;
     Ok(bytes)
