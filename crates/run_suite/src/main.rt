@@ -29,7 +29,7 @@ fn main(rt: HostRuntime) -> anyhow::Result<()> {
         let (records, next) = behind
             .split_at_checked(run.count.saturating_mul(RECORD_LEN))
             .context("a run is cut short")?;
-        put_run(heap, &run, records, &mut text)?;
+        put_run(heap, run, records, &mut text)?;
         left = next;
     }
     ensure!(left.is_empty(), "a run is cut short");
@@ -37,6 +37,7 @@ fn main(rt: HostRuntime) -> anyhow::Result<()> {
     Ok(())
 }
 
+#[derive(Clone, Copy)]
 struct Header {
     kind: u32,
     mount: f32,
@@ -57,6 +58,7 @@ impl Header {
 }
 
 // The monitors that are tried.
+#[derive(Clone, Copy)]
 enum Kind {
     EchoAndRest,
     CellsAndRests,
@@ -74,7 +76,7 @@ impl From<u32> for Kind {
     }
 }
 
-fn put_run(heap: Global, run: &Header, records: &[u8], text: &mut Vec<u8>) -> anyhow::Result<()> {
+fn put_run(heap: Global, run: Header, records: &[u8], text: &mut Vec<u8>) -> anyhow::Result<()> {
     let kind = run.kind;
     writeln!(text, "run {kind}")?;
     let echo = Echo::new(run.mount).context("a run has a bad mount")?;
