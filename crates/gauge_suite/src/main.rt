@@ -5,69 +5,98 @@
 
 use base::Refusal;
 use gauges::{Cell, Echo, Gauge, Pair, Reading};
-use std::alloc::Global;
-use std::io::{Read, Write};
+use std::io::Write;
 use std::num::f32_from_bits_with_nan;
-use suite_input::word;
+use suite_input::{read_all, word};
 
 const ENTRY_LEN: usize = 16;
 
 fn main(rt: HostRuntime) -> anyhow::Result<()> {
-    run(&rt)
-}
-
-fn run(rt: &HostRuntime) -> anyhow::Result<()> {
-    let heap = rt.alloc();
-    let mut input = Vec::new(heap);
-    rt.stdin().read_to_end(&mut input)?;
-    let mut text = String::new(heap);
-    for entry in input.as_slice().chunks(ENTRY_LEN) {
-        let line = row(
-            heap,
-            word(entry, 0),
-            word(entry, 4),
-            word(entry, 8),
-            word(entry, 12),
-        )?;
-        text.push_str(line.as_str())?;
+    let input = read_all(rt.alloc(), rt.stdin())?;
+    let mut text = String::new(rt.alloc());
+    for bytes in input.as_slice().chunks(ENTRY_LEN) {
+        put_row(Entry::read(bytes), &mut text)?;
     }
     rt.stdout().write_all(text.as_bytes())?;
     Ok(())
 }
 
-fn row(heap: Global, kind: u32, mount: u32, a: u32, b: u32) -> anyhow::Result<String> {
-    let text = match read(kind, mount, a, b) {
-        Ok(Reading::Level(level)) => format!(in heap;
-            "{kind} {mount:08x} {a:08x} {b:08x} level {level}\n"
-        )?,
-        Ok(Reading::Faulty(fault)) => {
+#[derive(Clone, Copy)]
+struct Entry {
+    kind: u32,
+    mount: u32,
+    a: u32,
+    b: u32,
+}
+
+impl Entry {
+    fn read(bytes: &[u8]) -> Entry {
+        Entry {
+            kind: word(bytes, 0),
+            mount: word(bytes, 4),
+            a: word(bytes, 8),
+            b: word(bytes, 12),
+        }
+    }
+}
+
+// The gauges that are tried. A pair is named by its gauges, the first one first.
+#[derive(Clone, Copy)]
+enum Kind {
+    Echo,
+    CellAndEcho,
+    EchoAndCell,
+    CellsAndEcho,
+    EchoAndCells,
+}
+
+// 1 to 5; every other number stands for the last kind, too.
+impl From<u32> for Kind {
+    fn from(number: u32) -> Kind {
+        match number {
+            1 => Kind::Echo,
+            2 => Kind::CellAndEcho,
+            3 => Kind::EchoAndCell,
+            4 => Kind::CellsAndEcho,
+            _ => Kind::EchoAndCells,
+        }
+    }
+}
+
+fn put_row(entry: Entry, text: &mut String) -> anyhow::Result<()> {
+    let Entry { kind, mount, a, b } = entry;
+    write!(text, "{kind} {mount:08x} {a:08x} {b:08x}")?;
+    match reading(entry) {
+        Ok(Ok(level)) => writeln!(text, " level {level}")?,
+        Ok(Err(fault)) => {
             let cause = fault.cause.number();
             let height = fault.height;
-            format!(in heap; "{kind} {mount:08x} {a:08x} {b:08x} fault {cause} height {height}\n")?
+            writeln!(text, " fault {cause} height {height}")?;
         }
         Err(refusal) => {
             let number = refusal.number();
-            format!(in heap; "{kind} {mount:08x} {a:08x} {b:08x} refused {number}\n")?
+            writeln!(text, " refused {number}")?;
         }
-    };
-    Ok(text)
+    }
+    Ok(())
 }
 
-// What a new gauge of that kind reads after it took the words.
-fn read(kind: u32, mount: u32, a: u32, b: u32) -> Result<Reading, Refusal> {
+// What a new gauge of the entry's kind reads after it took the words.
+fn reading(entry: Entry) -> Result<Reading, Refusal> {
+    let Entry { kind, mount, a, b } = entry;
     let echo = Echo::new(f32_from_bits_with_nan(mount))?;
-    let reading = match kind {
-        1 => taken(echo, a, b),
-        2 => taken(Pair::new(Cell::new(), echo), a, b),
-        3 => taken(Pair::new(echo, Cell::new()), a, b),
-        4 => taken(Pair::new(Pair::new(Cell::new(), Cell::new()), echo), a, b),
-        _ => taken(Pair::new(echo, Pair::new(Cell::new(), Cell::new())), a, b),
+    let cells = Pair::new(Cell::new(), Cell::new());
+    let reading = match Kind::from(kind) {
+        Kind::Echo => taken(echo, a, b),
+        Kind::CellAndEcho => taken(Pair::new(Cell::new(), echo), a, b),
+        Kind::EchoAndCell => taken(Pair::new(echo, Cell::new()), a, b),
+        Kind::CellsAndEcho => taken(Pair::new(cells, echo), a, b),
+        Kind::EchoAndCells => taken(Pair::new(echo, cells), a, b),
     };
     Ok(reading)
 }
 
-fn taken<G: Gauge + Drop>(gauge: G, a: u32, b: u32) -> Reading {
-    let mut gauge = gauge;
+fn taken<G: Gauge + Drop>(mut gauge: G, a: u32, b: u32) -> Reading {
     gauge.take(a, b);
     gauge.reading()
 }

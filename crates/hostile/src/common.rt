@@ -5,7 +5,7 @@ use std::process::Abort;
 // The largest output that is lent, and what it holds before a call.
 pub(crate) const ROOM: usize = 4096;
 
-pub(crate) const FILLED: [u8; 4096] = [0xA5; 4096];
+pub(crate) const FILLED: [u8; ROOM] = [0xA5; ROOM];
 
 // A call that writes gave the answer that was expected. It wrote so much of the text and nothing behind it;
 // if it refused, nothing at all.
@@ -13,14 +13,14 @@ pub(crate) fn check_written(
     rt: &impl Abort,
     answer: Result<usize, Refusal>,
     expected: Result<usize, Refusal>,
-    out: [u8; 4096],
+    out: [u8; ROOM],
     text: &[u8],
 ) {
     assert_eq!(rt; answer, expected);
     let len = expected.unwrap_or(0);
     assert!(rt; len <= ROOM && len <= text.len());
     let mut left = FILLED;
-    left[0..len].copy_from_slice(&text[0..len]);
+    left[..len].copy_from_slice(&text[..len]);
     assert_eq!(rt; out, left);
 }
 

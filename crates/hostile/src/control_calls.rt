@@ -69,11 +69,11 @@ fn plate_tells_both_sides_of_each_bound(rt: HostRuntime) -> Result<(), Fail> {
     ];
     for (levels, expected) in table {
         for level in levels {
-            assert_eq!(rt; said(&plate, Reading::Level(level)), expected);
+            assert_eq!(rt; said(&plate, Ok(level)), expected);
         }
     }
     let cause = Cause::Nothing;
-    let faulty = Reading::Faulty(Fault { cause, height: 255 });
+    let faulty = Err(Fault { cause, height: 255 });
     assert_eq!(rt; said(&plate, faulty), [N; 5]);
     Ok(())
 }

@@ -3,12 +3,11 @@ use gauges::*;
 use std::test::Fail;
 
 fn fault(cause: Cause, height: u8) -> Reading {
-    Reading::Faulty(Fault { cause, height })
+    Err(Fault { cause, height })
 }
 
 // What a gauge reads once it has taken the words.
-fn reads<G: Gauge + Drop>(gauge: G, a: u32, b: u32) -> Reading {
-    let mut gauge = gauge;
+fn reads<G: Gauge + Drop>(mut gauge: G, a: u32, b: u32) -> Reading {
     gauge.take(a, b);
     gauge.reading()
 }
@@ -20,8 +19,8 @@ fn echo_reads(mount: f32, a: u32) -> Result<Reading, Refusal> {
 #[test]
 fn cell_takes_words_0_to_255(rt: HostRuntime) {
     let table = [
-        (0, Reading::Level(1_273_372)),
-        (255, Reading::Level(2_726_614)),
+        (0, Ok(1_273_372)),
+        (255, Ok(2_726_614)),
         (256, fault(Cause::Scale, 0)),
         (u32::MAX, fault(Cause::Scale, 0)),
     ];
@@ -32,8 +31,8 @@ fn cell_takes_words_0_to_255(rt: HostRuntime) {
 
 #[test]
 fn echo_takes_mounts_from_1_to_100(rt: HostRuntime) {
-    assert_eq!(rt; echo_reads(1.0, 0), Ok(Reading::Level(100_000)));
-    assert_eq!(rt; echo_reads(100.0, 0), Ok(Reading::Level(10_000_000)));
+    assert_eq!(rt; echo_reads(1.0, 0), Ok(Ok(100_000)));
+    assert_eq!(rt; echo_reads(100.0, 0), Ok(Ok(10_000_000)));
     let refused = [
         [0.99999994, 1e-45, 0.0, -0.0],
         [100.00001, 101.0, -1.0, f32::MIN],
@@ -48,8 +47,8 @@ fn echo_takes_mounts_from_1_to_100(rt: HostRuntime) {
 
 #[test]
 fn echo_reads_gaps_from_0_to_the_mount(rt: HostRuntime) {
-    let zero = Reading::Level(0);
-    let full = Reading::Level(5_000_000);
+    let zero = Ok(0);
+    let full = Ok(5_000_000);
     let reach = fault(Cause::Reach, 0);
     let lost = fault(Cause::Lost, 0);
     let table = [
@@ -70,11 +69,11 @@ fn echo_reads_gaps_from_0_to_the_mount(rt: HostRuntime) {
 #[test]
 fn pair_reads_the_middle_of_levels_up_to_50_000_apart(rt: HostRuntime) -> Result<(), Fail> {
     let table = [
-        (0x41C4_0000, 0x41C0_0000, Reading::Level(2_575_000)), // 50,000 apart
-        (0x41C0_0000, 0x41C4_0000, Reading::Level(2_575_000)),
+        (0x41C4_0000, 0x41C0_0000, Ok(2_575_000)), // 50,000 apart
+        (0x41C0_0000, 0x41C4_0000, Ok(2_575_000)),
         (0x41C4_0001, 0x41C0_0000, fault(Cause::Apart, 0)), // 50,001 apart
         (0x41C0_0000, 0x41C4_0001, fault(Cause::Apart, 0)),
-        (0x41C4_0001, 0x41C4_0000, Reading::Level(2_549_999)), // 1 apart
+        (0x41C4_0001, 0x41C4_0000, Ok(2_549_999)), // 1 apart
     ];
     for (a, b, reading) in table {
         let pair = Pair::new(Echo::new(50.0)?, Echo::new(50.0)?);
@@ -113,9 +112,6 @@ fn echo_is_restored_within_its_ranges_only(rt: HostRuntime) {
         (0.99999994, 0, false),
     ];
     for (mount, level, there) in table {
-        assert_eq!(rt;
-            Echo::restore(mount, Reading::Level(level)).is_some(),
-            there
-        );
+        assert_eq!(rt; Echo::restore(mount, Ok(level)).is_some(), there);
     }
 }

@@ -20,7 +20,7 @@ fn check_line<G: Gauge, S: Switch>(rt: &impl Abort, monitor: &Monitor<G, S>, lin
     for room in [0, len.saturating_sub(1), len, 64, ROOM] {
         let mut out = FILLED;
         assert!(rt; room <= ROOM);
-        let answer = monitor.readout(&mut out[0..room]);
+        let answer = monitor.readout(&mut out[..room]);
         check_written(rt, answer, fitting(len, room), out, line.as_bytes());
     }
 }
@@ -78,7 +78,7 @@ fn refused_calls_leave_the_monitor_as_it_was(rt: HostRuntime) -> Result<(), Fail
     ];
     for (len, place, refusal) in table {
         assert!(rt; len <= RECORDS.len());
-        let fed = monitor.feed(&RECORDS[0..len], place);
+        let fed = monitor.feed(&RECORDS[..len], place);
         assert_eq!(rt; fed, Err(RecordFault { refusal, place }));
         let stepped = monitor.step(step(30, u64::MAX, 0));
         assert_eq!(rt; stepped, Err(Refusal::Time));

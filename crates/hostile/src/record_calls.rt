@@ -21,7 +21,7 @@ fn refusal(rt: &impl Abort, bytes: &[u8], place: usize) -> Result<u8, Fail> {
 #[test]
 fn reads_only_where_19_bytes_are_left(rt: HostRuntime) -> Result<(), Fail> {
     for len in 0..19 {
-        assert_eq!(rt; refusal(&rt, &RECORD[0..len], 0)?, 1);
+        assert_eq!(rt; refusal(&rt, &RECORD[..len], 0)?, 1);
     }
     // The record stands at the end of 40 bytes.
     let mut bytes = [0; 40];
@@ -68,7 +68,7 @@ fn names_the_first_of_several_causes(rt: HostRuntime) -> Result<(), Fail> {
         bytes[2] = flags;
         bytes[3..11].copy_from_slice(&u64::to_be_bytes(time));
         assert!(rt; len <= bytes.len());
-        assert_eq!(rt; refusal(&rt, &bytes[0..len], 0)?, number);
+        assert_eq!(rt; refusal(&rt, &bytes[..len], 0)?, number);
     }
     Ok(())
 }
@@ -85,7 +85,7 @@ fn writes_19_bytes_or_none(rt: HostRuntime) {
         for room in rooms {
             let mut out = FILLED;
             assert!(rt; room <= ROOM);
-            let answer = write_step(step(21, time, 1), &mut out[0..room]);
+            let answer = write_step(step(21, time, 1), &mut out[..room]);
             check_written(&rt, answer, expected, out, &RECORD);
         }
     }

@@ -6,15 +6,14 @@ const DAY: u64 = 86_400_000;
 
 // Opens a switch at a tick and asks it to close at two later ones. At the last: whether it is free, answers
 // closed, and is closed.
-fn closes_after<S: Switch + Drop>(switch: S, opening: u64, later: [u64; 2]) -> [bool; 3] {
-    let mut switch = switch;
+fn closes_after<S: Switch + Drop>(mut switch: S, opening: u64, later: [u64; 2]) -> [bool; 3] {
     switch.tick(opening);
     switch.open();
     switch.tick(later[0]);
     let _ = switch.close();
     switch.tick(later[1]);
     let free = switch.is_free();
-    let closed = switch.close() == Closing::Closed;
+    let closed = switch.close().is_ok();
     [free, closed, switch.is_closed()]
 }
 

@@ -17,7 +17,7 @@ fn longest_line_has_64_bytes_and_is_written_whole_or_not(rt: HostRuntime) {
     for room in [0, 63, 64, 65, ROOM] {
         let mut out = FILLED;
         assert!(rt; room <= ROOM);
-        let answer = write_line(&state, &Panel::dark(), true, &mut out[0..room]);
+        let answer = write_line(&state, &Panel::dark(), true, &mut out[..room]);
         check_written(&rt, answer, fitting(64, room), out, line);
     }
 }
@@ -28,7 +28,7 @@ fn longest_refusal_is_written_whole_or_not(rt: HostRuntime) {
     for room in [0, 35, 36, 64, ROOM] {
         let mut out = FILLED;
         assert!(rt; room <= ROOM);
-        let answer = write_refusal(255, usize::MAX, &mut out[0..room]);
+        let answer = write_refusal(255, usize::MAX, &mut out[..room]);
         check_written(&rt, answer, fitting(36, room), out, line);
     }
 }
@@ -59,7 +59,7 @@ fn batch_stops_where_64_bytes_are_no_longer_left(rt: HostRuntime) {
         let mut monitor = Monitor::set_up(Cell::new(), DirectContact::new(true), Plate::standard());
         let mut out = FILLED;
         assert!(rt; room <= ROOM);
-        let done = write_lines(&mut monitor, &bytes, place, &mut out[0..room]);
+        let done = write_lines(&mut monitor, &bytes, place, &mut out[..room]);
         assert_eq!(rt; done.place, next);
         check_written(&rt, Ok(done.written), Ok(text.len()), out, text.as_bytes());
     }

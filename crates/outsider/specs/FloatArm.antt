@@ -1,14 +1,12 @@
 -- The float on an arm.
-use Rattle.std.specs.Prelude.{ℕ, ◌*◌, cond, Some, None, Option, nat_lt}
-use Rattle.gauges.specs.Model.{Model, fresh}
+use Rattle.std.specs.Prelude.{ℕ, ◌*◌, cond, Some, None, Option, Ok, nat_lt}
+use Rattle.gauges.specs.Model.{Model, Reading, fresh}
 use Rattle.gauges.specs.declared.reading.Cause.TheVariants.{Scale, Nothing}
-use Rattle.gauges.specs.declared.reading.Reading.{Reading}
-use Rattle.gauges.specs.declared.reading.Reading.TheVariants.{Level}
 use Rattle.outsider.specs.declared.float_arm.FloatArm.{FloatArm}
 
 -- a word above 4095 is beyond the encoder; a step of it is 2400 units
 abbrev pub arm_reading : ℕ → Reading
-arm_reading a = cond (nat_lt 4095 a) (fresh Scale) (Level (2400 * a))
+arm_reading a = cond (nat_lt 4095 a) (fresh Scale) (Ok (2400 * a))
 
 -- what it reads after its last word, if it took one
 abbrev pub last_reading : Option ℕ → Reading

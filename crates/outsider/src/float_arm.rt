@@ -35,10 +35,8 @@ impl Gauge for FloatArm {
     }
 
     fn reading(&self) -> Reading {
-        match self.word {
-            None => fresh_fault(Cause::Nothing),
-            Some(a) => reading_at(a),
-        }
+        let word = self.word.ok_or(Cause::Nothing)?;
+        reading_at(word)
     }
 }
 
@@ -47,8 +45,7 @@ fn reading_at(a: u32) -> Reading
     ensures { result ≡ arm_reading a }
 {
     if a > LAST_WORD {
-        fresh_fault(Cause::Scale)
-    } else {
-        Reading::Level(UNITS_PER_STEP * a)
+        return fresh_fault(Cause::Scale);
     }
+    Ok(UNITS_PER_STEP * a)
 }

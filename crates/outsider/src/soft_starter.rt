@@ -2,7 +2,7 @@ ghost use Rattle.std.specs.Prelude.{◌≡◌, ◌+◌, nat_le};
 ghost use Rattle.outsider.specs.SoftStarter.{soft_starter, new_starter, cut};
 ghost use Rattle.std.proofs.Common.{rules};
 
-use switches::{Closing, Switch};
+use switches::{Held, Switch};
 
 // The longest run of the motor, and how long it then cools: four hours, and ten minutes.
 const LONGEST_RUN: u64 = 14_400_000;
@@ -59,15 +59,15 @@ impl Switch for SoftStarter {
         }
     }
 
-    fn close(&mut self) -> Closing {
+    fn close(&mut self) -> Result<(), Held> {
         if !self.is_free() {
-            return Closing::Held;
+            return Err(Held);
         }
         if !self.closed {
             self.closed = true;
             self.since = self.last;
         }
-        Closing::Closed
+        Ok(())
     }
 
     fn open(&mut self) {

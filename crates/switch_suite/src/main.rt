@@ -4,161 +4,166 @@
 #![tactic(auto)]
 
 use base::Refusal;
-use std::alloc::Global;
-use std::io::{Read, Write};
-use suite_input::{digit, word};
-use switches::{Closing, DirectContact, DriveWord, Rest, RestTime, Switch};
+use std::io::Write;
+use suite_input::{digit, read_all, word};
+use switches::{DirectContact, DriveWord, Rest, RestTime, Switch};
 
 const ENTRY_LEN: usize = 16;
 
-// The last operation that makes a new switch.
-const LAST_NEW: u32 = 4;
-
 fn main(rt: HostRuntime) -> anyhow::Result<()> {
-    run(&rt)
-}
-
-fn run(rt: &HostRuntime) -> anyhow::Result<()> {
-    let heap = rt.alloc();
-    let mut script = Vec::new(heap);
-    rt.stdin().read_to_end(&mut script)?;
-    let mut text = String::new(heap);
-    let mut at = 0usize;
-    for _ in 0..script.len() {
-        if at >= script.len() {
-            break;
-        }
-        at = part(heap, script.as_slice(), at, &mut text)?;
+    let input = read_all(rt.alloc(), rt.stdin())?;
+    let script: Vec<Entry> = input
+        .as_slice()
+        .chunks(ENTRY_LEN)
+        .map(Entry::read)
+        .collect(rt.alloc())?;
+    let mut text = String::new(rt.alloc());
+    for part in script.as_slice().chunk_by(|_, next| next.is_call()) {
+        put_part(part, &mut text)?;
     }
     rt.stdout().write_all(text.as_bytes())?;
     Ok(())
 }
 
-// One switch, from its making to the next; or one call with no switch. Answers where the script goes on.
-fn part(heap: Global, script: &[u8], at: usize, text: &mut String) -> anyhow::Result<usize> {
-    let kind = word(script, at);
-    let first = long(script, at.saturating_add(4));
-    let second = word(script, at.saturating_add(12));
-    match kind {
-        1 => work(heap, DirectContact::new(first == 1), script, at, text),
-        2 => work(
-            heap,
-            DriveWord::new((first % 65_536) as u16),
-            script,
-            at,
+// A new switch, or a call of the last one.
+#[derive(Clone, Copy)]
+enum Operation {
+    Nothing = 0,
+    NewContact = 1,
+    NewDrive = 2,
+    NewRest = 3,
+    NewRests = 4,
+    Tick = 5,
+    Close = 6,
+    Open = 7,
+}
+
+// Numbers above 7 open, too.
+impl From<u32> for Operation {
+    fn from(number: u32) -> Operation {
+        match number {
+            0 => Operation::Nothing,
+            1 => Operation::NewContact,
+            2 => Operation::NewDrive,
+            3 => Operation::NewRest,
+            4 => Operation::NewRests,
+            5 => Operation::Tick,
+            6 => Operation::Close,
+            _ => Operation::Open,
+        }
+    }
+}
+
+// An operation with its long and its short argument.
+#[derive(Clone, Copy)]
+struct Entry {
+    operation: Operation,
+    long: u64,
+    short: u32,
+}
+
+impl Entry {
+    fn read(bytes: &[u8]) -> Entry {
+        Entry {
+            operation: Operation::from(word(bytes, 0)),
+            long: u64::from(word(bytes, 4)) << 32 | u64::from(word(bytes, 8)),
+            short: word(bytes, 12),
+        }
+    }
+
+    fn is_call(&self) -> bool {
+        matches!(
+            self.operation,
+            Operation::Tick | Operation::Close | Operation::Open
+        )
+    }
+}
+
+// One switch, from its making to the next; or entries with no switch.
+fn put_part(part: &[Entry], text: &mut String) -> anyhow::Result<()> {
+    let Some((new, calls)) = part.split_first() else {
+        return Ok(());
+    };
+    let number = new.operation as u8;
+    match new.operation {
+        Operation::NewContact => work(number, Ok(DirectContact::new(new.long == 1)), calls, text),
+        Operation::NewDrive => work(
+            number,
+            Ok(DriveWord::new((new.long % 65_536) as u16)),
+            calls,
             text,
         ),
-        3 => {
-            let Ok(rest) = RestTime::new(first) else {
-                return refuse(heap, Refusal::Setting, at, text);
-            };
-            work(
-                heap,
-                Rest::new(DirectContact::new(second == 1), rest),
-                script,
-                at,
-                text,
-            )
-        }
-        4 => {
-            let Ok(lower) = RestTime::new(second as u64) else {
-                return refuse(heap, Refusal::Setting, at, text);
-            };
-            let Ok(upper) = RestTime::new(first) else {
-                return refuse(heap, Refusal::Setting, at, text);
-            };
-            work(
-                heap,
-                Rest::new(Rest::new(DriveWord::new(0x00FF), lower), upper),
-                script,
-                at,
-                text,
-            )
-        }
-        _ => {
-            text.push_str("none\n")?;
-            Ok(at.saturating_add(ENTRY_LEN))
-        }
+        Operation::NewRest => work(number, rest(new), calls, text),
+        Operation::NewRests => work(number, rests(new), calls, text),
+        _ => put_nones(part, text),
     }
 }
 
-fn refuse(heap: Global, refusal: Refusal, at: usize, text: &mut String) -> anyhow::Result<usize> {
-    let number = refusal.number();
-    let line = format!(in heap; "refused {number}\n")?;
-    text.push_str(line.as_str())?;
-    Ok(at.saturating_add(ENTRY_LEN))
+fn rest(new: &Entry) -> Result<Rest<DirectContact>, Refusal> {
+    let time = RestTime::new(new.long)?;
+    Ok(Rest::new(DirectContact::new(new.short == 1), time))
 }
 
-// Works a switch by the calls that follow its making.
+fn rests(new: &Entry) -> Result<Rest<Rest<DriveWord>>, Refusal> {
+    let lower = RestTime::new(u64::from(new.short))?;
+    let upper = RestTime::new(new.long)?;
+    Ok(Rest::new(Rest::new(DriveWord::new(0x00FF), lower), upper))
+}
+
+// Works a new switch by the calls that follow its making. One that was refused cannot be called.
 fn work<S: Switch + Drop>(
-    heap: Global,
-    switch: S,
-    script: &[u8],
-    at: usize,
-    text: &mut String,
-) -> anyhow::Result<usize> {
-    let mut switch = switch;
-    let kind = word(script, at);
-    let front = format!(in heap; "new {kind}")?;
-    put(heap, &switch, front, text)?;
-    let mut next = at.saturating_add(ENTRY_LEN);
-    for _ in 0..script.len() {
-        let operation = word(script, next);
-        if next >= script.len() || operation <= LAST_NEW {
-            break;
-        }
-        let front = call(
-            heap,
-            &mut switch,
-            operation,
-            long(script, next.saturating_add(4)),
-        )?;
-        put(heap, &switch, front, text)?;
-        next = next.saturating_add(ENTRY_LEN);
-    }
-    Ok(next)
-}
-
-// 5 tick, 6 close, 7 open.
-fn call<S: Switch>(
-    heap: Global,
-    switch: &mut S,
-    operation: u32,
-    time: u64,
-) -> anyhow::Result<String> {
-    let text = match operation {
-        5 => {
-            switch.tick(time);
-            format!(in heap; "tick {time}")?
-        }
-        6 => match switch.close() {
-            Closing::Closed => format!(in heap; "close closed")?,
-            Closing::Held => format!(in heap; "close held")?,
-        },
-        _ => {
-            switch.open();
-            format!(in heap; "open")?
-        }
-    };
-    Ok(text)
-}
-
-// A line: what was called, and contact and freedom after it.
-fn put<S: Switch>(
-    heap: Global,
-    switch: &S,
-    front: String,
+    number: u8,
+    made: Result<S, Refusal>,
+    calls: &[Entry],
     text: &mut String,
 ) -> anyhow::Result<()> {
-    let called = front.as_str();
-    let contact = digit(switch.is_closed());
-    let freedom = digit(switch.is_free());
-    let line = format!(in heap; "{called} {contact} {freedom}\n")?;
-    text.push_str(line.as_str())?;
+    let mut switch = match made {
+        Ok(switch) => switch,
+        Err(refusal) => {
+            let number = refusal.number();
+            writeln!(text, "refused {number}")?;
+            return put_nones(calls, text);
+        }
+    };
+    write!(text, "new {number}")?;
+    put_state(&switch, text)?;
+    for entry in calls {
+        call(&mut switch, entry, text)?;
+        put_state(&switch, text)?;
+    }
     Ok(())
 }
 
-// The 64-bit number at `at`.
-fn long(bytes: &[u8], at: usize) -> u64 {
-    word(bytes, at) as u64 * 4_294_967_296 + word(bytes, at.saturating_add(4)) as u64
+fn call<S: Switch>(switch: &mut S, entry: &Entry, text: &mut String) -> anyhow::Result<()> {
+    match entry.operation {
+        Operation::Tick => {
+            let time = entry.long;
+            switch.tick(time);
+            write!(text, "tick {time}")?;
+        }
+        Operation::Close => match switch.close() {
+            Ok(()) => text.push_str("close closed")?,
+            Err(_) => text.push_str("close held")?,
+        },
+        _ => {
+            switch.open();
+            text.push_str("open")?;
+        }
+    }
+    Ok(())
+}
+
+// Contact and freedom, to the line's end.
+fn put_state<S: Switch>(switch: &S, text: &mut String) -> anyhow::Result<()> {
+    let contact = digit(switch.is_closed());
+    let freedom = digit(switch.is_free());
+    writeln!(text, " {contact} {freedom}")?;
+    Ok(())
+}
+
+fn put_nones(entries: &[Entry], text: &mut String) -> anyhow::Result<()> {
+    for _ in entries {
+        text.push_str("none\n")?;
+    }
+    Ok(())
 }

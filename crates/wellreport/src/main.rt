@@ -5,10 +5,6 @@ use report::{SESSION_LIMIT, report};
 use std::io::{Read, Write};
 
 fn main(rt: HostRuntime) -> anyhow::Result<()> {
-    run(&rt)
-}
-
-fn run(rt: &HostRuntime) -> anyhow::Result<()> {
     let heap = rt.alloc();
     let mut session = Vec::new(heap);
     rt.stdin()
