@@ -11,12 +11,9 @@ module _ {N M : Type 0} (numbers : M → N) (possible : M → Bool) (n : N) wher
   pub none_stands : ((m : M) → possible m ≡ true → numbers m ≡ n → ⊥) → (r : Option M) → r ≡ None → StandsFor numbers possible n r
   none_stands without r none = subst (StandsFor numbers possible n) (sym none) (λ m e. false_from_ne_true (possible m) (λ can. without m can e))
 
-  -- the one thing that has the numbers, if it is possible
-  pub one_stands : (m : M) → numbers m ≡ n → ((k : M) → possible k ≡ true → numbers k ≡ n → k ≡ m)
-      → (b : Bool) → b ≡ possible m → (r : Option M) → r ≡ then_some b m → StandsFor numbers possible n r
-  one_stands m has only true can r is = subst (StandsFor numbers possible n) (sym is) (has, sym can)
-  one_stands m has only false cannot r is =
-      subst (StandsFor numbers possible n) (sym is) (λ k e. false_from_ne_true (possible k) (λ can. false≢true (cannot ∙ ap possible (sym (only k can e)) ∙ can)))
+  -- nothing, if the one thing that has the numbers is not possible
+  pub none_possible : (m : M) → ((k : M) → possible k ≡ true → numbers k ≡ n → k ≡ m) → possible m ≡ false → StandsFor numbers possible n None
+  none_possible m only cannot = λ k e. false_from_ne_true (possible k) (λ can. false≢true (sym cannot ∙ ap possible (sym (only k can e)) ∙ can))
 
 -- ---- calls
 

@@ -15,21 +15,14 @@ use report::write_lines;
 // Room enough for every line.
 const LINE_ROOM: usize = 64;
 
-// The monitor that the numbers stand for.
-fn restored<N: MonitorNumbers>(numbers: &N) -> Result<Monitor<N::G, N::S>, CallError>
-    ensures value { Restored N.numbers N.possible numbers.now result }
-    ensures distinct { Distinct N.numbers N.possible }
-    ensures stays { StaysPossible N.G.Gauge.model N.S.Switch.model N.possible }
-{
-    N::laws();
-    numbers.monitor().ok_or(CallError::NoMonitor)
-}
-
 // One step.
 pub(crate) fn step<N: MonitorNumbers>(numbers: &mut N, facts: &StepNumbers) -> Result<(), CallError>
     ensures { Call N.numbers N.possible no_monitor (λ _. answered (told facts.now)) (with_step N.G.Gauge.model N.S.Switch.model (told facts.now)) numbers.old (call_number result) numbers.new }
 {
-    let mut monitor = restored(numbers)?;
+    N::laws();
+    let Some(mut monitor) = numbers.monitor() else {
+        return Err(CallError::NoMonitor);
+    };
     let step = Step::from_flags(facts.facts, facts.time, facts.a, facts.b)?;
     monitor.step(step)?;
     *numbers = N::of(&monitor);
@@ -44,7 +37,10 @@ pub(crate) fn feed<N: MonitorNumbers>(
 ) -> Result<(), CallError>
     ensures { Call N.numbers N.possible (no_monitor, place.old) (λ _. fed bytes.now place.old) (λ m. after_feed N.G.Gauge.model N.S.Switch.model m bytes.now place.old) numbers.old (call_number result, place.new) numbers.new }
 {
-    let mut monitor = restored(numbers)?;
+    N::laws();
+    let Some(mut monitor) = numbers.monitor() else {
+        return Err(CallError::NoMonitor);
+    };
     *place = monitor.feed(bytes, *place)?;
     *numbers = N::of(&monitor);
     Ok(())
@@ -58,7 +54,10 @@ pub(crate) fn readout<N: MonitorNumbers>(
 ) -> Result<(), CallError>
     ensures { Call N.numbers N.possible (no_monitor, out.old, len.old) (λ m. shown (line_of N.S.Switch.model m) out.old len.old) (λ m. m) numbers.now (call_number result, out.new, len.new) numbers.now }
 {
-    let monitor = restored(numbers)?;
+    N::laws();
+    let Some(monitor) = numbers.monitor() else {
+        return Err(CallError::NoMonitor);
+    };
     *len = monitor.readout(out)?;
     Ok(())
 }
@@ -73,7 +72,10 @@ pub(crate) fn lines<N: MonitorNumbers>(
 ) -> Result<(), CallError>
     ensures { Call N.numbers N.possible (no_monitor, place.old, out.old, written.old) (batch N.G.Gauge.model N.S.Switch.model bytes.now place.old out.old written.old) (after_batch N.G.Gauge.model N.S.Switch.model bytes.now place.old out.old) numbers.old (call_number result, place.new, out.new, written.new) numbers.new }
 {
-    let mut monitor = restored(numbers)?;
+    N::laws();
+    let Some(mut monitor) = numbers.monitor() else {
+        return Err(CallError::NoMonitor);
+    };
     if *place < bytes.len() && out.len() < LINE_ROOM {
         Err(Refusal::Output)?
     }

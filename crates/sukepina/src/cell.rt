@@ -20,6 +20,7 @@ impl MonitorNumbers for CellNumbers {
 
     ghost possible = { cell_possible };
 
+    #[inline(always)]
     fn of(monitor: &Monitor<Cell, DirectContact>) -> CellNumbers {
         let word = monitor.gauge().word();
         CellNumbers {
@@ -30,6 +31,7 @@ impl MonitorNumbers for CellNumbers {
         }
     }
 
+    #[inline(always)]
     fn monitor(&self) -> Option<Monitor<Cell, DirectContact>> {
         let core = self.core.parts()?;
         let word = flag_of(self.taken)?.then_some(self.word);
@@ -39,7 +41,10 @@ impl MonitorNumbers for CellNumbers {
         let gauge = Cell::restore(word);
         let switch = DirectContact::new(flag_of(self.closed)?);
         let monitor = Monitor::restore(gauge, switch, core.plate, core.state, core.panel);
-        is_cell_possible(&monitor).then_some(monitor)
+        if !is_cell_possible(&monitor) {
+            return None;
+        }
+        Some(monitor)
     }
 
     fn laws() {}
@@ -55,6 +60,7 @@ pub(crate) fn set_up(numbers: &mut CellNumbers, plate: &PlateNumbers) -> Result<
     Ok(())
 }
 
+#[inline(always)]
 fn is_cell_possible(monitor: &Monitor<Cell, DirectContact>) -> bool
     ensures { result ≡ cell_possible monitor.now }
 {

@@ -15,6 +15,7 @@ pub(crate) struct Core {
 }
 
 impl CoreNumbers {
+    #[inline(always)]
     pub(crate) fn new(plate: Plate, state: State, panel: Panel) -> CoreNumbers
         ensures { result ≡ core_numbers plate state panel }
     {
@@ -39,6 +40,7 @@ impl CoreNumbers {
     }
 
     // The parts that have these numbers, or none if there are none.
+    #[inline(always)]
     pub(crate) fn parts(&self) -> Option<Core>
         ensures { StandsFor numbers_of every self.now result }
     {

@@ -26,6 +26,7 @@ impl MonitorNumbers for EchoNumbers {
 
     ghost possible = { echo_possible };
 
+    #[inline(always)]
     fn of(monitor: &Monitor<Echo, Rest<DriveWord>>) -> EchoNumbers {
         let switch = monitor.switch();
         let opening = switch.opening_tick();
@@ -43,6 +44,7 @@ impl MonitorNumbers for EchoNumbers {
         }
     }
 
+    #[inline(always)]
     fn monitor(&self) -> Option<Monitor<Echo, Rest<DriveWord>>> {
         let core = self.core.parts()?;
         let gauge = Echo::restore(self.mount, reading_of(self.fault, self.level)?)?;
@@ -54,7 +56,10 @@ impl MonitorNumbers for EchoNumbers {
         let below = DriveWord::new(u16::try_from(self.drive).ok()?);
         let switch = Rest::restore(below, rest, self.last_tick, opening);
         let monitor = Monitor::restore(gauge, switch, core.plate, core.state, core.panel);
-        is_echo_possible(&monitor).then_some(monitor)
+        if !is_echo_possible(&monitor) {
+            return None;
+        }
+        Some(monitor)
     }
 
     fn laws() {}
@@ -78,6 +83,7 @@ pub(crate) fn set_up(
     Ok(())
 }
 
+#[inline(always)]
 fn is_echo_possible(monitor: &Monitor<Echo, Rest<DriveWord>>) -> bool
     ensures { result ≡ echo_possible monitor.now }
 {
@@ -158,6 +164,7 @@ fn level_number(reading: Reading) -> u32
 }
 
 // The echo gauge's reading with these numbers, or none if there is none.
+#[inline(always)]
 fn reading_of(fault: u32, level: u32) -> Option<Reading>
     ensures { StandsFor reading_numbers echo_read (fault, level) result }
 {

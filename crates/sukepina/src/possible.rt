@@ -8,6 +8,7 @@ use control::{Button, FailureMode, Mode, Plate, Signal, State, Watchdog};
 use display::Panel;
 use gauges::Reading;
 
+#[inline(always)]
 pub(crate) fn is_possible(
     plate: &Plate,
     state: &State,
@@ -22,12 +23,14 @@ pub(crate) fn is_possible(
 }
 
 // A faulty gauge or a level past a mark leaves no allok, except in the dark.
+#[inline(always)]
 fn reading_is_possible(plate: &Plate, state: &State, reading: Reading) -> bool
     ensures { result ≡ reading_possible plate.now state.now reading }
 {
     !plate.is_bad(reading) || state.failure != FailureMode::Allok || state.mode == Mode::Dark
 }
 
+#[inline(always)]
 fn state_is_possible(state: &State) -> bool
     ensures { result ≡ state_possible state.now }
 {
@@ -73,6 +76,7 @@ fn dark_is_possible(state: &State) -> bool
 }
 
 // Showing the last step again changes nothing.
+#[inline(always)]
 fn panel_is_possible(plate: &Plate, state: &State, panel: &Panel, reading: Reading) -> bool
     ensures { result ≡ panel_possible plate.now state.now panel.now reading }
 {
