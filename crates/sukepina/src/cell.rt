@@ -20,7 +20,6 @@ impl MonitorNumbers for CellNumbers {
 
     ghost possible = { cell_possible };
 
-    #[inline(always)]
     fn of(monitor: &Monitor<Cell, DirectContact>) -> CellNumbers {
         let word = monitor.gauge().word();
         CellNumbers {
@@ -60,7 +59,6 @@ pub(crate) fn set_up(numbers: &mut CellNumbers, plate: &PlateNumbers) -> Result<
     Ok(())
 }
 
-#[inline(always)]
 fn is_cell_possible(monitor: &Monitor<Cell, DirectContact>) -> bool
     ensures { result ≡ cell_possible monitor.now }
 {

@@ -15,7 +15,6 @@ pub(crate) struct Core {
 }
 
 impl CoreNumbers {
-    #[inline(always)]
     pub(crate) fn new(plate: Plate, state: State, panel: Panel) -> CoreNumbers
         ensures { result ≡ core_numbers plate state panel }
     {

@@ -26,7 +26,6 @@ impl MonitorNumbers for EchoNumbers {
 
     ghost possible = { echo_possible };
 
-    #[inline(always)]
     fn of(monitor: &Monitor<Echo, Rest<DriveWord>>) -> EchoNumbers {
         let switch = monitor.switch();
         let opening = switch.opening_tick();
@@ -83,7 +82,6 @@ pub(crate) fn set_up(
     Ok(())
 }
 
-#[inline(always)]
 fn is_echo_possible(monitor: &Monitor<Echo, Rest<DriveWord>>) -> bool
     ensures { result ≡ echo_possible monitor.now }
 {
@@ -164,7 +162,6 @@ fn level_number(reading: Reading) -> u32
 }
 
 // The echo gauge's reading with these numbers, or none if there is none.
-#[inline(always)]
 fn reading_of(fault: u32, level: u32) -> Option<Reading>
     ensures { StandsFor reading_numbers echo_read (fault, level) result }
 {

@@ -23,14 +23,12 @@ pub(crate) fn is_possible(
 }
 
 // A faulty gauge or a level past a mark leaves no allok, except in the dark.
-#[inline(always)]
 fn reading_is_possible(plate: &Plate, state: &State, reading: Reading) -> bool
     ensures { result ≡ reading_possible plate.now state.now reading }
 {
     !plate.is_bad(reading) || state.failure != FailureMode::Allok || state.mode == Mode::Dark
 }
 
-#[inline(always)]
 fn state_is_possible(state: &State) -> bool
     ensures { result ≡ state_possible state.now }
 {
@@ -76,7 +74,6 @@ fn dark_is_possible(state: &State) -> bool
 }
 
 // Showing the last step again changes nothing.
-#[inline(always)]
 fn panel_is_possible(plate: &Plate, state: &State, panel: &Panel, reading: Reading) -> bool
     ensures { result ≡ panel_possible plate.now state.now panel.now reading }
 {
