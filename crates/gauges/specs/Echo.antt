@@ -4,11 +4,10 @@ use Rattle.base.specs.declared.refusal.Refusal.{Refusal}
 use Rattle.base.specs.declared.refusal.Refusal.TheVariants.{Setting}
 use Rattle.gauges.specs.declared.echo.Echo.{Echo}
 use Rattle.gauges.specs.declared.reading.Cause.TheVariants.{Nothing}
-use Rattle.gauges.specs.declared.reading.Reading.{Reading}
 use Rattle.gauges.specs.EchoRange.{echo_in_range}
 use Rattle.gauges.specs.EchoWord.{echo_reading}
 use Rattle.gauges.specs.Height.{in_mount}
-use Rattle.gauges.specs.Model.{Model, fresh, is_in_range}
+use Rattle.gauges.specs.Model.{Model, Reading, fresh, is_in_range}
 
 -- what setting up at a mount height answers
 abbrev pub SetUp : Float → Result Echo Refusal → Type 0

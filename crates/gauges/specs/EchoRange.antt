@@ -1,5 +1,5 @@
 -- A proof, which the echo gauge's model needs for its ghost field: what the gauge reads is in range.
-use Rattle.std.specs.Prelude.{◌≡◌, ℕ, zero, suc, ◌+◌, ◌-◌, ◌*◌, ◌<◌, ◌≤◌, Bool, true, false, cond, ◌&&◌, ◌||◌, T, ℤ, ◌==◌, nat_eq, nat_lt, refl, Float}
+use Rattle.std.specs.Prelude.{◌≡◌, ℕ, zero, suc, ◌+◌, ◌-◌, ◌*◌, ◌<◌, ◌≤◌, Bool, true, false, cond, ◌&&◌, ◌||◌, T, ℤ, ◌==◌, nat_eq, nat_lt, refl, Ok, Err, Float}
 use Rattle.std.proofs.Common.{inl, inr, sym, ap, ◌∙◌, le_of_eq, le_trans, mul_assoc, mul-le-mul_right, mul-pos, lit<}
 use Rattle.std.proofs.Math.Path.{subst}
 use Rattle.std.proofs.Math.Nat.{zero-mul}
@@ -15,8 +15,8 @@ use Rattle.std.specs.Float.Ieee.Positive.{num, den, den_pos, positive, between, 
 use Rattle.std.specs.Float.Ieee.Scale.{finite}
 use Rattle.std.proofs.lemmas.Bool.{and_parts, and_from, cond-false, eqb-true, false≢true, le-leb, le-ltb, ltb-false, ltb-true, or_cases, or_parts}
 use Rattle.base.specs.Limits.{level_limit}
-use Rattle.gauges.specs.declared.echo.word.EchoWord.TheVariants.{Gap, Lost, OutOfReach}
-use Rattle.gauges.specs.EchoWord.{echo_reading, lost, out_of_reach, word_reading}
+use Rattle.gauges.specs.declared.reading.Cause.TheVariants.{Lost, Reach}
+use Rattle.gauges.specs.EchoWord.{echo_reading, gap_reading, lost, out_of_reach}
 use Rattle.gauges.specs.Height.{cm_1, cm_100, in_height, in_mount, units}
 use Rattle.gauges.specs.Model.{is_in_range}
 
@@ -125,7 +125,7 @@ pub echo_in_range : (mount : Float) (a : ℕ) → in_mount mount ≡ true → is
 echo_in_range mount a h = by_word (lost a) refl (out_of_reach (of_bits binary32 a) mount) refl
   where
     by_word : (l : Bool) → lost a ≡ l → (o : Bool) → out_of_reach (of_bits binary32 a) mount ≡ o
-        → is_in_range (word_reading mount (cond l Lost (cond o (OutOfReach (of_bits binary32 a)) (Gap (of_bits binary32 a))))) ≡ true
+        → is_in_range (gap_reading mount (cond l (Err Lost) (cond o (Err Reach) (Ok (of_bits binary32 a))))) ≡ true
     by_word true p o q = refl
     by_word false p true q = refl
     by_word false p false q = le-leb _ _ (units_limit (sub binary32 mount (of_bits binary32 a)) (height_in mount a h p q))

@@ -1,14 +1,11 @@
 -- What an echo gauge reads at a word A.
-use Rattle.std.specs.Prelude.{ℕ, ◌/◌, ◌%◌, Bool, cond, ◌||◌, ◌==◌, from_bits, Float}
+use Rattle.std.specs.Prelude.{ℕ, ◌/◌, ◌%◌, Bool, cond, ◌||◌, Ok, Err, Result, ◌==◌, from_bits, Float}
 use Rattle.std.specs.Float.{binary32}
 use Rattle.std.specs.Float.Ieee.{lt, sub}
-use Rattle.gauges.specs.declared.echo.word.EchoWord.{EchoWord}
-use Rattle.gauges.specs.declared.echo.word.EchoWord.TheVariants.{Gap, Lost, OutOfReach}
-use Rattle.gauges.specs.declared.reading.Cause.TheVariants.{Lost as Lost-echo, Reach}
-use Rattle.gauges.specs.declared.reading.Reading.{Reading}
-use Rattle.gauges.specs.declared.reading.Reading.TheVariants.{Level}
+use Rattle.gauges.specs.declared.reading.Cause.{Cause}
+use Rattle.gauges.specs.declared.reading.Cause.TheVariants.{Lost, Reach}
 use Rattle.gauges.specs.Height.{cm_0, units}
-use Rattle.gauges.specs.Model.{fresh}
+use Rattle.gauges.specs.Model.{Reading, fresh}
 
 -- the exponent bits are all ones: an infinity or a NaN
 abbrev pub lost : ℕ → Bool
@@ -18,17 +15,14 @@ lost a = a / 0x80_0000 % 0x100 == 0xff
 abbrev pub out_of_reach : Float → Float → Bool
 out_of_reach gap mount = lt gap cm_0 || lt mount gap
 
-abbrev pub gap_word : Float → Float → EchoWord
-gap_word gap mount = cond (out_of_reach gap mount) (OutOfReach gap) (Gap gap)
-
-abbrev pub echo_word : ℕ → Float → EchoWord
-echo_word a mount = cond (lost a) Lost (gap_word (from_bits binary32 a) mount)
+-- the gap that word A gives at a mount height, or why it gives none
+abbrev pub gap_at : ℕ → Float → Result Float Cause
+gap_at a mount = cond (lost a) (Err Lost) (cond (out_of_reach (from_bits binary32 a) mount) (Err Reach) (Ok (from_bits binary32 a)))
 
 -- `sub` is one subtraction, rounded once
-abbrev pub word_reading : Float → EchoWord → Reading
-word_reading mount (Gap gap) = Level (units (sub binary32 mount gap))
-word_reading mount Lost = fresh Lost-echo
-word_reading mount (OutOfReach gap) = fresh Reach
+abbrev pub gap_reading : Float → Result Float Cause → Reading
+gap_reading mount (Ok gap) = Ok (units (sub binary32 mount gap))
+gap_reading mount (Err why) = fresh why
 
 abbrev pub echo_reading : Float → ℕ → Reading
-echo_reading mount a = word_reading mount (echo_word a mount)
+echo_reading mount a = gap_reading mount (gap_at a mount)

@@ -1,9 +1,12 @@
 -- What a gauge means.
-use Rattle.std.specs.Prelude.{ℕ, ◌≤◌, Bool, true, nat_le}
+use Rattle.std.specs.Prelude.{ℕ, ◌≤◌, Bool, true, nat_le, Ok, Err, Result}
 use Rattle.base.specs.Limits.{level_limit}
 use Rattle.gauges.specs.declared.reading.Cause.{Cause}
-use Rattle.gauges.specs.declared.reading.Reading.{Reading}
-use Rattle.gauges.specs.declared.reading.Reading.TheVariants.{Level, Faulty}
+use Rattle.gauges.specs.declared.reading.Fault.{Fault}
+
+-- a level in units of 0.00001 cm, or a fault
+abbrev pub Reading : Type 0
+Reading = Result ℕ Fault
 
 pub record Model (G : Type 0) : Type 0 where
   -- what the gauge reads in a state
@@ -13,14 +16,18 @@ pub record Model (G : Type 0) : Type 0 where
 
 -- a level is at most 10,000,000 units
 abbrev pub InRange : Reading → Type 0
-InRange (Level units) = units ≤ level_limit
-InRange (Faulty f) = Unit {0}
+InRange (Ok units) = units ≤ level_limit
+InRange (Err f) = Unit {0}
 
 -- the same as a test, for a ghost field
 abbrev pub is_in_range : Reading → Bool
-is_in_range (Level units) = nat_le units level_limit
-is_in_range (Faulty f) = true
+is_in_range (Ok units) = nat_le units level_limit
+is_in_range (Err f) = true
 
 -- a fault where it arises
+abbrev pub arisen : Cause → Fault
+arisen c = record { cause = c; height = 0 }
+
+-- the same as a reading
 abbrev pub fresh : Cause → Reading
-fresh c = Faulty (record { cause = c; height = 0 })
+fresh c = Err (arisen c)

@@ -1,11 +1,9 @@
 -- The pair of any two gauges.
-use Rattle.std.specs.Prelude.{ℕ, ◌+◌, ◌/◌, min, cond, ◌||◌, nat_lt}
-use Rattle.gauges.specs.Model.{Model, fresh}
+use Rattle.std.specs.Prelude.{ℕ, ◌+◌, ◌/◌, min, cond, ◌||◌, Ok, Err, nat_lt}
+use Rattle.gauges.specs.Model.{Model, Reading, fresh}
 use Rattle.gauges.specs.declared.pair.Pair.{Pair}
 use Rattle.gauges.specs.declared.reading.Cause.TheVariants.{Apart}
 use Rattle.gauges.specs.declared.reading.Fault.{Fault}
-use Rattle.gauges.specs.declared.reading.Reading.{Reading}
-use Rattle.gauges.specs.declared.reading.Reading.TheVariants.{Level, Faulty}
 
 -- a fault passed on: one higher, 255 at most
 abbrev pub raised : Fault → Fault
@@ -13,13 +11,13 @@ raised f = record { cause = f.cause; height = min 255 (f.height + 1) }
 
 -- more than 50,000 apart is a fault; otherwise half the sum, rounded down
 abbrev pub middle : ℕ → ℕ → Reading
-middle x y = cond (nat_lt (x + 50000) y || nat_lt (y + 50000) x) (fresh Apart) (Level ((x + y) / 2))
+middle x y = cond (nat_lt (x + 50000) y || nat_lt (y + 50000) x) (fresh Apart) (Ok ((x + y) / 2))
 
 -- a fault of the first, or else of the second, is the pair's
 abbrev pub joined : Reading → Reading → Reading
-joined (Faulty f) second = Faulty (raised f)
-joined (Level x) (Faulty f) = Faulty (raised f)
-joined (Level x) (Level y) = middle x y
+joined (Err f) second = Err (raised f)
+joined (Ok x) (Err f) = Err (raised f)
+joined (Ok x) (Ok y) = middle x y
 
 abbrev pub new_pair : {F S : Type 0} → F → S → Pair F S
 new_pair f s = record { first = f; second = s }

@@ -52,10 +52,8 @@ impl Gauge for Cell {
     }
 
     fn reading(&self) -> Reading {
-        match self.word {
-            None => fresh_fault(Cause::Nothing),
-            Some(a) => reading_of(a),
-        }
+        let word = self.word.ok_or(Cause::Nothing)?;
+        reading_of(word)
     }
 }
 
@@ -64,8 +62,7 @@ fn reading_of(a: u32) -> Reading
     ensures { result ≡ cell_reading a }
 {
     if a > FULL_SCALE {
-        fresh_fault(Cause::Scale)
-    } else {
-        Reading::Level(OFFSET + SPAN * a / FULL_SCALE)
+        return fresh_fault(Cause::Scale);
     }
+    Ok(OFFSET + SPAN * a / FULL_SCALE)
 }

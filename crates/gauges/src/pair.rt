@@ -42,11 +42,9 @@ impl<F: Gauge, S: Gauge> Gauge for Pair<F, S> {
 fn joined(first: Reading, second: Reading) -> Reading
     ensures { result ≡ joined first second }
 {
-    match (first, second) {
-        (Reading::Faulty(fault), _) => Reading::Faulty(raised(fault)),
-        (Reading::Level(_), Reading::Faulty(fault)) => Reading::Faulty(raised(fault)),
-        (Reading::Level(x), Reading::Level(y)) => middle(x, y),
-    }
+    let x = first.map_err(raised)?;
+    let y = second.map_err(raised)?;
+    middle(x, y)
 }
 
 // Half the sum, rounded down, or a fault if the levels are too far apart.
@@ -54,10 +52,9 @@ fn middle(x: u32, y: u32) -> Reading
     ensures { result ≡ middle x y }
 {
     if x.abs_diff(y) > WIDEST_GAP {
-        fresh_fault(Cause::Apart)
-    } else {
-        Reading::Level(((x as u64 + y as u64) / 2) as u32)
+        return fresh_fault(Cause::Apart);
     }
+    Ok(((x as u64 + y as u64) / 2) as u32)
 }
 
 // A fault passed on, one higher, 255 at most.

@@ -1,13 +1,9 @@
 ghost use Rattle.std.specs.Prelude.{◌≡◌};
 ghost use Rattle.gauges.specs.Causes.{cause_number};
-ghost use Rattle.gauges.specs.Model.{fresh};
+ghost use Rattle.gauges.specs.Model.{arisen, fresh};
 
 // What a gauge reads: a level in units of 0.00001 cm, or a fault.
-#[derive(Clone, Copy, PartialEq, Eq, Debug)]
-pub enum Reading {
-    Level(u32),
-    Faulty(Fault),
-}
+pub type Reading = Result<u32, Fault>;
 
 // The height counts the gauges through which a fault was passed on: 0 where it arose, 255 at most.
 #[derive(Clone, Copy, PartialEq, Eq, Debug)]
@@ -19,34 +15,37 @@ pub struct Fault {
 #[derive(Clone, Copy, PartialEq, Eq, Debug)]
 pub enum Cause {
     // a word beyond the cell's scale
-    Scale,
+    Scale = 1,
     // the echo is lost
-    Lost,
+    Lost = 2,
     // the gap is out of reach
-    Reach,
+    Reach = 3,
     // two gauges read too far apart
-    Apart,
+    Apart = 4,
     // nothing taken yet
-    Nothing,
+    Nothing = 5,
 }
 
 impl Cause {
     pub fn number(self) -> u8
         ensures { result ≡ cause_number self }
     {
-        match self {
-            Cause::Scale => 1,
-            Cause::Lost => 2,
-            Cause::Reach => 3,
-            Cause::Apart => 4,
-            Cause::Nothing => 5,
-        }
+        self as u8
     }
 }
 
-// A fault where it arises, at height 0.
+// A cause makes a fault where it arises, at height 0.
+impl From<Cause> for Fault {
+    ghost from_gives = { λ cause fault. fault ≡ arisen cause };
+
+    fn from(cause: Cause) -> Fault {
+        Fault { cause, height: 0 }
+    }
+}
+
+// A fault where it arises, as a reading.
 pub fn fresh_fault(cause: Cause) -> Reading
     ensures { result ≡ fresh cause }
 {
-    Reading::Faulty(Fault { cause, height: 0 })
+    Err(Fault::from(cause))
 }

@@ -3,7 +3,7 @@ use base::Refusal;
 use std::test::Fail;
 
 fn fault(cause: Cause) -> Reading {
-    Reading::Faulty(Fault { cause, height: 0 })
+    Err(Fault { cause, height: 0 })
 }
 
 // What an echo gauge at `mount` reads after word `a`.
@@ -16,11 +16,11 @@ fn echo_reads(mount: f32, a: u32) -> Result<Reading, Refusal> {
 #[test]
 fn echo_gauge_at_50_reads_each_kind_of_word(rt: HostRuntime) -> Result<(), Fail> {
     let table = [
-        (0x41C4_0000, Reading::Level(2_550_000)), // 24.5
-        (0x41C0_0000, Reading::Level(2_600_000)), // 24.0
-        (0x8000_0000, Reading::Level(5_000_000)), // minus zero
-        (0x0000_0001, Reading::Level(5_000_000)), // the least gap above zero
-        (0x4248_0000, Reading::Level(0)), // the mount height
+        (0x41C4_0000, Ok(2_550_000)), // 24.5
+        (0x41C0_0000, Ok(2_600_000)), // 24.0
+        (0x8000_0000, Ok(5_000_000)), // minus zero
+        (0x0000_0001, Ok(5_000_000)), // the least gap above zero
+        (0x4248_0000, Ok(0)), // the mount height
         (0x4248_0001, fault(Cause::Reach)), // just above it
         (0xBF80_0000, fault(Cause::Reach)), // -1.0
         (0x7F80_0000, fault(Cause::Lost)), // infinity
@@ -34,10 +34,10 @@ fn echo_gauge_at_50_reads_each_kind_of_word(rt: HostRuntime) -> Result<(), Fail>
 
 #[test]
 fn echo_gauge_rounds_the_difference_once_and_its_units_down(rt: HostRuntime) -> Result<(), Fail> {
-    assert_eq!(rt; echo_reads(100.0, 0x3680_0000)?, Reading::Level(10_000_000));
-    assert_eq!(rt; echo_reads(100.0, 0x3680_0001)?, Reading::Level(9_999_999));
-    assert_eq!(rt; echo_reads(1.0, 0x3F7F_FF58)?, Reading::Level(1));
-    assert_eq!(rt; echo_reads(1.0, 0x3F7F_FFFF)?, Reading::Level(0));
+    assert_eq!(rt; echo_reads(100.0, 0x3680_0000)?, Ok(10_000_000));
+    assert_eq!(rt; echo_reads(100.0, 0x3680_0001)?, Ok(9_999_999));
+    assert_eq!(rt; echo_reads(1.0, 0x3F7F_FF58)?, Ok(1));
+    assert_eq!(rt; echo_reads(1.0, 0x3F7F_FFFF)?, Ok(0));
     Ok(())
 }
 

@@ -1,7 +1,6 @@
 -- What a pump switch means.
-use Rattle.std.specs.Prelude.{ℕ, Bool, cond}
-use Rattle.switches.specs.declared.closing.Closing.{Closing}
-use Rattle.switches.specs.declared.closing.Closing.TheVariants.{Closed, Held}
+use Rattle.std.specs.Prelude.{ℕ, Bool, cond, Ok, Err, Result}
+use Rattle.switches.specs.declared.held.Held.{Held}
 
 pub record Model (S : Type 0) : Type 0 where
   -- true: the contact is closed
@@ -19,5 +18,6 @@ pub record Model (S : Type 0) : Type 0 where
 abbrev pub asked_to_close : {S : Type 0} → Model S → S → S
 asked_to_close m s = cond (m.free s) (m.closed s) s
 
-abbrev pub answer : {S : Type 0} → Model S → S → Closing
-answer m s = cond (m.free s) Closed Held
+-- what a closing answers: an error if the switch is not free
+abbrev pub answer : {S : Type 0} → Model S → S → Result Unit Held
+answer m s = cond (m.free s) (Ok tt) (Err (record {}))

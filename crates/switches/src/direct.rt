@@ -2,7 +2,7 @@ ghost use Rattle.std.specs.Prelude.{◌≡◌, Bool, true, false};
 ghost use Rattle.switches.specs.Direct.{direct, contact_at};
 ghost use Rattle.std.proofs.Common.{rules};
 
-use crate::closing::Closing;
+use crate::held::Held;
 use crate::switch::Switch;
 
 // A pump contact worked directly. It is always free, and ticks mean nothing to it.
@@ -35,9 +35,9 @@ impl Switch for DirectContact {
         let _ = time;
     }
 
-    fn close(&mut self) -> Closing {
+    fn close(&mut self) -> Result<(), Held> {
         self.closed = true;
-        Closing::Closed
+        Ok(())
     }
 
     fn open(&mut self) {

@@ -2,13 +2,13 @@ ghost use Rattle.std.specs.Prelude.{◌≡◌};
 ghost use Rattle.switches.specs.Drive.{drive, word_at};
 ghost use Rattle.std.proofs.Common.{rules};
 
-use crate::closing::Closing;
+use crate::held::Held;
 use crate::switch::Switch;
 
 // The one word that closes the contact, and the word that an opening writes.
-const CLOSED_WORD: u16 = 0x00FF;
+pub const CLOSED_WORD: u16 = 0x00FF;
 
-const OPEN_WORD: u16 = 0xFF00;
+pub const OPEN_WORD: u16 = 0xFF00;
 
 // A contact worked through a drive's control word. Every word but one means open. It is always free, and
 // ticks mean nothing to it.
@@ -49,9 +49,9 @@ impl Switch for DriveWord {
         let _ = time;
     }
 
-    fn close(&mut self) -> Closing {
+    fn close(&mut self) -> Result<(), Held> {
         self.word = CLOSED_WORD;
-        Closing::Closed
+        Ok(())
     }
 
     fn open(&mut self) {

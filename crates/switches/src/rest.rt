@@ -2,7 +2,7 @@ ghost use Rattle.std.specs.Prelude.{◌≡◌};
 ghost use Rattle.switches.specs.Rest.{resting, new_rest, rest_with, rested, opening_after};
 ghost use Rattle.std.proofs.Common.{rules};
 
-use crate::closing::Closing;
+use crate::held::Held;
 use crate::rest_time::RestTime;
 use crate::switch::Switch;
 
@@ -104,12 +104,11 @@ impl<S: Switch> Switch for Rest<S> {
         self.last = time;
     }
 
-    fn close(&mut self) -> Closing {
-        if self.is_free() {
-            self.below.close()
-        } else {
-            Closing::Held
+    fn close(&mut self) -> Result<(), Held> {
+        if !self.is_free() {
+            return Err(Held);
         }
+        self.below.close()
     }
 
     fn open(&mut self) {

@@ -1,14 +1,14 @@
 ghost use Rattle.std.specs.Prelude.{◌≡◌, ℕ, Bool, true, false, cond};
 ghost use Rattle.switches.specs.Model.{Model, asked_to_close, answer};
 
-use crate::closing::Closing;
+use crate::held::Held;
 
 // A switch means a contact, closed or open, and whether it is free to be closed.
 //
 // An implementer shows five points:
 // 1. `tick` tells any 64-bit time; state and time alone fix the state after it (`ticked`), and it
 //    never closes an open contact;
-// 2. `close` on a free switch leaves the contact closed; otherwise it answers `Held` and changes nothing;
+// 2. `close` on a free switch leaves the contact closed; otherwise it answers the error `Held` and changes nothing;
 // 3. `open` always leaves the contact open;
 // 4. `is_closed` and `is_free` answer what the state means, and change nothing;
 // 5. a closed contact is free.
@@ -19,7 +19,7 @@ pub trait Switch {
     fn tick(&mut self, time: u64)
         ensures { self.new ≡ model.ticked self.old time };
 
-    fn close(&mut self) -> Closing
+    fn close(&mut self) -> Result<(), Held>
         ensures value { result ≡ answer model self.old }
         ensures after { self.new ≡ asked_to_close model self.old };
 

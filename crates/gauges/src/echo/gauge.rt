@@ -7,7 +7,7 @@ ghost use Rattle.std.proofs.Common.{rules, arith};
 
 use crate::echo::Echo;
 use crate::echo::level::level;
-use crate::echo::word::{EchoWord, read_word};
+use crate::echo::word::gap_at;
 use crate::gauge::Gauge;
 use crate::reading::{Cause, Reading, fresh_fault};
 use base::Refusal;
@@ -56,33 +56,31 @@ impl Echo {
     fn reading_at(&self, a: u32) -> Reading
         ensures { result ≡ echo_reading self.now.mount a }
     {
-        match read_word(a, self.mount) {
-            EchoWord::Gap(gap) => Reading::Level(level(self.mount, gap)),
-            EchoWord::Lost => fresh_fault(Cause::Lost),
-            EchoWord::OutOfReach(_) => fresh_fault(Cause::Reach),
-        }
+        let gap = gap_at(a, self.mount)?;
+        Ok(level(self.mount, gap))
     }
 }
 
+#[tactic(auto, using(crate::proofs::FloatRange::at_most))]
 fn is_mount(mount: f32) -> bool
     ensures { result ≡ in_mount mount }
 {
-    LOWEST_MOUNT <= mount && mount <= HIGHEST_MOUNT
+    (LOWEST_MOUNT..=HIGHEST_MOUNT).contains(&mount)
 }
 
 fn is_in_range(reading: Reading) -> bool
     ensures { result ≡ is_in_range reading }
 {
     match reading {
-        Reading::Level(level) => level <= LEVEL_LIMIT,
-        Reading::Faulty(_) => true,
+        Ok(level) => level <= LEVEL_LIMIT,
+        Err(_) => true,
     }
 }
 
 impl Gauge for Echo {
     ghost model = { echo };
 
-    ghost in_range = { first_of (Prim.search rules, Prim.grind (arith, Self.row.coded.inj)) };
+    ghost in_range = { Prim.search rules };
 
     fn take(&mut self, a: u32, b: u32) {
         let _ = b;

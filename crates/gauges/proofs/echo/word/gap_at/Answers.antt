@@ -5,7 +5,7 @@ use lib.Ieee.{binary32, nan_bits}
 use Rattle.std.proofs.lemmas.Bool.{and_left, ne_eqb, not_from_false}
 use Rattle.gauges.specs.EchoRange.{holds}
 use Rattle.gauges.specs.EchoWord.{lost}
-use Rattle.gauges.proofs.echo.word.read_word.Goals as goal
+use Rattle.gauges.proofs.echo.word.gap_at.Goals as goal
 
 no_nan : (a : ℕ) → lost a ≡ false → T (not (nan_bits binary32 a))
 unfolding nan_bits
