@@ -25,7 +25,7 @@ CALLS_SPEC = "crates/monitor/specs/Calls.antt"
 
 CHANGES = {
     "a monitor that never closes": [
-        ("crates/control/src/state.rt", "(Signal::Operate, Watchdog::Operate) => true,", "(Signal::Operate, Watchdog::Operate) => false,"),
+        ("crates/control/src/state.rt", "self.signal == Signal::Operate && self.watchdog == Watchdog::Operate", "false"),
         ("crates/control/specs/State.antt", "drives st = operate st.signal && watched st.watchdog", "drives st = false"),
     ],
     "a reset that need not be let go": [
@@ -47,7 +47,7 @@ CHANGES = {
     ],
     "a test that lasts too long": [
         (TABLE, "const TEST_TIME: u64 = 14_000;", "const TEST_TIME: u64 = 20_000;"),
-        (TABLE_SPEC, "ltb 14000 c.dwell", "ltb 20000 c.dwell"),
+        (TABLE_SPEC, "nat_lt 14000 c.dwell", "nat_lt 20000 c.dwell"),
     ],
     "a watchdog fed by a refused step": [
         ("crates/monitor/src/step.rt", "            return Err(Refusal::Time);", "            self.state.time = step.time;\n            return Err(Refusal::Time);"),

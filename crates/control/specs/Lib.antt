@@ -1,6 +1,7 @@
 pub mod Button
 pub mod ModeTable
 pub mod Modes
+pub mod Names
 pub mod Plate
 pub mod PlateRules
 pub mod State

@@ -1,5 +1,5 @@
 -- The mode table, row by row. The first row that applies is taken; if none does, the mode stays.
-use Rattle.std.specs.Prelude.{Bool, cond, not, ◌&&◌, ◌||◌, ltb, List, [], ◌∷◌, nat_le, nat_lt}
+use Rattle.std.specs.Prelude.{Bool, cond, not, ◌&&◌, ◌||◌, List, [], ◌∷◌, nat_le, nat_lt}
 use Rattle.control.specs.Modes.{is}
 use Rattle.control.specs.declared.mode.Mode.{Mode}
 use Rattle.control.specs.declared.mode.Mode.TheVariants.{Standby, Operating, Shutdown, Test}
@@ -15,12 +15,12 @@ row f w t = record { from = f; when = w; to = t }
 
 abbrev pub table : List Row
 table =
-    row (λ m. is m Operating || (is m Shutdown || is m Standby)) (λ c. ltb 500 c.tested) Test
+    row (λ m. is m Operating || (is m Shutdown || is m Standby)) (λ c. nat_lt 500 c.tested) Test
     ∷ row (λ m. is m Operating) (λ c. not c.testing && c.out) Shutdown
     ∷ row (λ m. is m Shutdown) (λ c. not c.testing && nat_le 200 c.dwell) Standby
     ∷ row (λ m. is m Shutdown) (λ c. not c.testing && (nat_lt c.dwell 200 && c.settled)) Operating
     ∷ row (λ m. is m Standby) (λ c. nat_lt 3000 c.reset && c.settled) Operating
-    ∷ row (λ m. is m Test) (λ c. ltb 14000 c.dwell) Standby
+    ∷ row (λ m. is m Test) (λ c. nat_lt 14000 c.dwell) Standby
     ∷ []
 
 abbrev first_row : List Row → Mode → Conditions → Mode

@@ -1,7 +1,6 @@
 -- The state after an accepted step.
-use Rattle.std.specs.Prelude.{ℕ, ◌+◌, ◌-◌, Bool, true, false, cond, ◌||◌, nat_le}
-use Rattle.gauges.specs.declared.reading.Reading.{Reading}
-use Rattle.gauges.specs.declared.reading.Reading.TheVariants.{Level, Faulty}
+use Rattle.std.specs.Prelude.{ℕ, ◌+◌, ◌-◌, Bool, true, false, cond, ◌||◌, Ok, Err, nat_le}
+use Rattle.gauges.specs.Model.{Reading}
 use Rattle.records.specs.declared.step.Step.{Step}
 use Rattle.control.specs.Button.{pressed, released}
 use Rattle.control.specs.Modes.{allok, is}
@@ -33,8 +32,8 @@ next_watchdog st t = cond (late st t) watchdog.Shut st.watchdog
 
 -- Part 3. A fault, or a level past a mark.
 abbrev pub bad_reading : Plate → Reading → Bool
-bad_reading p (Level u) = past_mark p (Level u)
-bad_reading p (Faulty f) = true
+bad_reading p (Ok u) = past_mark p (Ok u)
+bad_reading p (Err f) = true
 
 -- the failure mode after: failed memory or clock, a bad reading
 abbrev pub worse : FailureMode → Bool → Bool → FailureMode

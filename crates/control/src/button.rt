@@ -3,7 +3,8 @@ ghost use Rattle.control.specs.Button.{pressed, released};
 
 // A button at the last step: whether it was down, and since when. An up button counts from the step itself,
 // so that its time is 0.
-#[derive(Clone, Copy)]
+// Not an Option: an up button has its time too, which `held` answers for it and C passes in.
+#[derive(Clone, Copy, PartialEq, Eq, Debug)]
 pub struct Button {
     pub down: bool,
     pub since: u64,

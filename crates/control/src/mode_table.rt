@@ -13,11 +13,11 @@ const SHUTDOWN_TIME: u64 = 200;
 const TEST_TIME: u64 = 14_000;
 
 // What one step tells the mode table.
-#[derive(Clone, Copy)]
+#[derive(Clone, Copy, PartialEq, Eq, Debug)]
 pub struct Conditions {
     // the time in mode
     pub dwell: u64,
-    // self test is down, and its button time
+    // self test is down, and its button time; not an Option, since each row asks the one or the other, and never both
     pub testing: bool,
     pub tested: u64,
     // the reset's button time

@@ -7,7 +7,7 @@ mod levels;
 mod make;
 
 // Five numbers that keep the plate's rules: no other plate exists.
-#[derive(Clone, Copy)]
+#[derive(Clone, Copy, PartialEq, Eq, Debug)]
 pub struct Plate {
     numbers: PlateNumbers,
     ghost ok: { keeps_rules numbers ≡ true },

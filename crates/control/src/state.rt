@@ -5,7 +5,7 @@ use crate::button::Button;
 use crate::mode::{FailureMode, Mode, Signal, Watchdog};
 
 // What the monitor keeps from one accepted step to the next, apart from the display.
-#[derive(Clone, Copy)]
+#[derive(Clone, Copy, PartialEq, Eq, Debug)]
 pub struct State {
     pub mode: Mode,
     pub failure: FailureMode,
@@ -40,9 +40,6 @@ impl State {
     pub fn drives(&self) -> bool
         ensures { result ≡ drives self.now }
     {
-        match (self.signal, self.watchdog) {
-            (Signal::Operate, Watchdog::Operate) => true,
-            _ => false,
-        }
+        self.signal == Signal::Operate && self.watchdog == Watchdog::Operate
     }
 }

@@ -14,6 +14,7 @@ const WATCHDOG_TIME: u64 = 500;
 
 impl State {
     // The state after an accepted step; `reading` is the gauge's, once it has taken the step's words.
+    // Plate and reading are not joined in a struct: the one is the monitor's for good, the other new at each step.
     pub fn next(&self, plate: &Plate, step: Step, reading: Reading) -> State
         ensures { result ≡ next_state plate.now self.now step reading }
     {
@@ -79,7 +80,7 @@ impl State {
     fn next_watchdog(&self, time: u64) -> Watchdog
         ensures { result ≡ next_watchdog self.now time }
     {
-        if time >= self.time && time - self.time >= WATCHDOG_TIME {
+        if time.saturating_sub(self.time) >= WATCHDOG_TIME {
             Watchdog::Shut
         } else {
             self.watchdog

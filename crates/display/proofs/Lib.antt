@@ -1,4 +1,2 @@
 pub mod Front
-pub mod Laid
 pub mod Pairs
-pub mod Written

@@ -1,11 +1,10 @@
 -- The level figure: four characters, built from tenths of a centimetre.
-use Rattle.std.specs.Prelude.{ℕ, ◌+◌, ◌-◌, ◌*◌, ◌/◌, ◌%◌, cond, ◌&&◌, List, [], ◌∷◌, codes, nat_le, nat_lt}
+use Rattle.std.specs.Prelude.{ℕ, ◌+◌, ◌-◌, ◌*◌, ◌/◌, ◌%◌, cond, ◌&&◌, List, [], ◌∷◌, Ok, Err, codes, nat_le, nat_lt}
 use Rattle.control.specs.Modes.{allok}
 use Rattle.control.specs.declared.mode.Mode.{Mode}
 use Rattle.control.specs.declared.mode.Mode.TheVariants.{Dark, Standby, Operating, Shutdown, Test}
 use Rattle.control.specs.declared.state.State.{State}
-use Rattle.gauges.specs.declared.reading.Reading.{Reading}
-use Rattle.gauges.specs.declared.reading.Reading.TheVariants.{Level, Faulty}
+use Rattle.gauges.specs.Model.{Reading}
 
 abbrev pub blank : List ℕ
 blank = codes "--.-"
@@ -16,8 +15,8 @@ tenths_figure n = (48 + n / 100 % 10) ∷ (48 + n / 10 % 10) ∷ 46 ∷ (48 + n 
 
 -- to the nearest 10,000 units, halves up
 abbrev pub level_figure : Reading → List ℕ
-level_figure (Level units) = tenths_figure ((units + 5000) / 10000)
-level_figure (Faulty f) = blank
+level_figure (Ok units) = tenths_figure ((units + 5000) / 10000)
+level_figure (Err f) = blank
 
 -- 00.0, but from 4,000 to below 13,000 it is 11.1 for each whole second since 4,000
 abbrev pub test_figure : ℕ → List ℕ

@@ -2,7 +2,7 @@
 use Rattle.control.specs.declared.mode.Mode.{Mode}
 use Rattle.control.specs.declared.plate.Plate.{Plate}
 use Rattle.control.specs.declared.state.State.{State}
-use Rattle.gauges.specs.declared.reading.Reading.{Reading}
+use Rattle.gauges.specs.Model.{Reading}
 use Rattle.display.specs.Figure.{blank, figure_of}
 use Rattle.display.specs.Warnings.{off, next_warnings}
 use Rattle.display.specs.declared.panel.Panel.{Panel}

@@ -8,7 +8,7 @@ use Rattle.control.specs.declared.mode.Mode.{Mode}
 use Rattle.control.specs.declared.mode.Mode.TheVariants.{Dark, Standby, Operating, Shutdown, Test}
 use Rattle.control.specs.declared.plate.Plate.{Plate}
 use Rattle.control.specs.declared.state.State.{State}
-use Rattle.gauges.specs.declared.reading.Reading.{Reading}
+use Rattle.gauges.specs.Model.{Reading}
 use Rattle.display.specs.declared.warnings.Warnings.{Warnings}
 
 abbrev pub off : Warnings

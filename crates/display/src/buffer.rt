@@ -1,11 +1,10 @@
-ghost use Rattle.std.specs.Prelude.{◌≡◌, ◌+◌, ◌<◌, ◌≤◌, true, [], ◌++◌, length, drop, replicate, is_ok, decimal};
-ghost use Rattle.display.specs.Line.{Wrote};
+ghost use Rattle.std.specs.Prelude.{◌≡◌, ◌+◌, ◌<◌, ◌≤◌, [], ◌++◌, length, decimal};
 ghost use Rattle.display.specs.Pair.{pair};
 
-use base::Refusal;
+use std::marker::Model;
 
-// The longest line: a time of 20 digits, two names of 9, and 26 bytes besides.
-pub(crate) const LINE_LEN: usize = 64;
+// Room for every line: the longest has a time of 20 digits, two names of 9, and 26 bytes besides.
+pub const LINE_LEN: usize = 64;
 
 // The numbers from 00 to 99.
 const PAIRS: [u8; 200] = *b"\
@@ -20,65 +19,61 @@ const PAIRS: [u8; 200] = *b"\
     80818283848586878889\
     90919293949596979899";
 
-// A line that grows at its front: the bytes from `start` on.
-#[derive(Clone, Copy)]
+// A text of at most `LINE_LEN` bytes that grows at its front, since the last digits of a number are found first.
+// It stands in `bytes` from `start` on: an array, as there is no heap.
+#[derive(Drop)]
 pub(crate) struct Buffer {
-    pub(crate) bytes: [u8; 64],
-    pub(crate) start: usize,
+    bytes: [u8; LINE_LEN],
+    start: usize,
+}
+
+impl Model for Buffer {
+    ghost use Rattle.std.specs.Prelude.{ℕ, ◌≤◌, List, drop};
+
+    ghost Value = { List ℕ };
+
+    ghost view = { λ b. drop b.start b.bytes };
+
+    ghost invariant = { λ b. b.start ≤ 64 };
 }
 
 impl Buffer {
     pub(crate) fn new() -> Buffer
-        ensures start { result.start ≡ 64 }
-        ensures text { drop result.start result.bytes ≡ [] }
-    {
-        Buffer::ending(LINE_LEN)
-    }
-
-    // No text yet, to grow from `start`.
-    pub(crate) fn ending(start: usize) -> Buffer
-        ensures start { result.start ≡ start }
-        ensures bytes { result.bytes ≡ replicate 64 0 }
+        ensures { result ≡ [] }
     {
         Buffer {
-            bytes: [0; 64],
-            start,
+            bytes: [0; LINE_LEN],
+            start: LINE_LEN,
         }
+    }
+
+    pub(crate) fn as_bytes(&self) -> &[u8]
+        ensures text { result.now ≡ self.now }
+        ensures most { length self.now ≤ 64 }
+    {
+        &self.bytes[self.start..]
     }
 
     // Puts `piece` before what stands there.
     pub(crate) fn before(&mut self, piece: &[u8])
-        requires { (length piece.now ≤ self.old.start) × (self.old.start ≤ 64) }
-        ensures start { self.new.start + length piece.now ≡ self.old.start }
-        ensures text { drop self.new.start self.new.bytes ≡ piece.now ++ drop self.old.start self.old.bytes }
+        requires { length piece.now + length self.old ≤ 64 }
+        ensures { self.new ≡ piece.now ++ self.old }
     {
         let end = self.start;
-        let at = end - piece.len();
-        self.bytes[at..end].copy_from_slice(piece);
-        self.start = at;
+        let start = end - piece.len();
+        self.bytes[start..end].copy_from_slice(piece);
+        self.start = start;
     }
 
-    // Writes the text at the front of `out` and answers its length. If it does not fit, nothing is written.
-    pub(crate) fn put(&self, out: &mut [u8]) -> Result<usize, Refusal>
-        requires { self.now.start ≤ 64 }
-        ensures wrote { Wrote (drop self.now.start self.now.bytes) out.old result out.new }
-        ensures suffices { 64 ≤ length out.old → is_ok result ≡ true }
-    {
-        let len = LINE_LEN - self.start;
-        if out.len() < len {
-            return Err(Refusal::Output);
-        }
-        out[0..len].copy_from_slice(&self.bytes[self.start..LINE_LEN]);
-        Ok(len)
-    }
-
-    // Puts a number in decimal before what stands there.
+    // Puts a number in decimal before what stands there: 20 digits at most.
+    #[tactic(auto, using(crate::proofs::Front::two_only, crate::proofs::Front::within, std::proofs::lemmas::Fmt::decimal_digit))]
     pub(crate) fn before_number(&mut self, number: u64)
-        requires { (length (decimal number) ≤ self.old.start) × (self.old.start ≤ 64) }
-        ensures start { self.new.start + length (decimal number) ≡ self.old.start }
-        ensures text { drop self.new.start self.new.bytes ≡ decimal number ++ drop self.old.start self.old.bytes }
+        requires { 20 + length self.old ≤ 64 }
+        ensures text { self.new ≡ decimal number ++ self.old }
+        ensures most { length self.new ≤ 20 + length self.old }
     {
         let mut left = number;
+        // Over the digits, two at a time, for which there is no iterator.
         while left >= 100 {
             self.before(&two_digits(left % 100));
             left /= 100;
@@ -92,6 +87,7 @@ impl Buffer {
 }
 
 // Both decimal digits of a number below 100.
+#[tactic(auto, using(crate::proofs::Pairs::pair_at))]
 fn two_digits(n: u64) -> [u8; 2]
     requires { n < 100 }
     ensures { result ≡ pair n }

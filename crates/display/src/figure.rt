@@ -4,6 +4,9 @@ ghost use Rattle.display.specs.Figure.{tenths_figure, level_figure, test_figure,
 use control::{FailureMode, Mode, State};
 use gauges::Reading;
 
+// No level.
+pub(crate) const BLANK: [u8; 4] = *b"--.-";
+
 // A tenth of a centimetre in units, and half of it.
 const TENTH: u64 = 10_000;
 
@@ -27,7 +30,7 @@ pub(crate) fn figure(state: &State, reading: Reading) -> [u8; 4]
         (FailureMode::Allok, Mode::Standby | Mode::Operating | Mode::Shutdown) => level_figure(
             reading,
         ),
-        _ => *b"--.-",
+        _ => BLANK,
     }
 }
 
@@ -36,8 +39,8 @@ fn level_figure(reading: Reading) -> [u8; 4]
     ensures { result ≡ level_figure reading }
 {
     match reading {
-        Reading::Level(level) => tenths_figure((level as u64 + HALF_TENTH) / TENTH),
-        Reading::Faulty(_) => *b"--.-",
+        Ok(level) => tenths_figure((u64::from(level) + HALF_TENTH) / TENTH),
+        Err(_) => BLANK,
     }
 }
 

@@ -4,10 +4,10 @@
 mod buffer;
 mod figure;
 mod line;
-mod names;
 mod panel;
 mod warnings;
 
+pub use buffer::LINE_LEN;
 pub use line::{write_line, write_refusal};
 pub use panel::Panel;
 pub use warnings::Warnings;

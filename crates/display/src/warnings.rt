@@ -1,5 +1,5 @@
 ghost use Rattle.std.specs.Prelude.{◌≡◌, ◌-◌};
-ghost use Rattle.display.specs.Warnings.{off, next_warnings, by_level, in_test, flashing, lamp, entered_from};
+ghost use Rattle.display.specs.Warnings.{off, next_warnings, by_level, in_test, flashing, lamp};
 
 use control::{FailureMode, Mode, Plate, State};
 use gauges::Reading;
@@ -13,7 +13,7 @@ const HIGH_TEST_END: u64 = 2_000;
 const LOW_TEST_END: u64 = 4_000;
 
 // The high window, the low window and the alarm: on, or audible, if true.
-#[derive(Clone, Copy)]
+#[derive(Clone, Copy, PartialEq, Eq, Debug)]
 pub struct Warnings {
     pub high: bool,
     pub low: bool,
@@ -49,7 +49,7 @@ impl Warnings {
             (FailureMode::Allok, Mode::Operating) => self.by_level(
                 plate,
                 reading,
-                entered_from(before),
+                before != Mode::Operating,
             ),
             (FailureMode::Allok, Mode::Shutdown) => self.by_level(plate, reading, false),
         }
@@ -71,16 +71,6 @@ fn lamp(lit: bool, entered: bool, before: bool) -> bool
     ensures { result ≡ lamp lit entered before }
 {
     lit || (!entered && before)
-}
-
-// Operating was entered by this step, if it was not the mode before.
-fn entered_from(before: Mode) -> bool
-    ensures { result ≡ entered_from before }
-{
-    match before {
-        Mode::Operating => false,
-        _ => true,
-    }
 }
 
 fn in_test(dwell: u64) -> Warnings

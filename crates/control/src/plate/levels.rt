@@ -10,41 +10,29 @@ impl Plate {
     pub fn is_past_mark(&self, reading: Reading) -> bool
         ensures { result ≡ past_mark self.now reading }
     {
-        match reading {
-            Reading::Level(level) => level < self.numbers.low_mark
-                || level > self.numbers.high_mark,
-            Reading::Faulty(_) => false,
-        }
+        let n = self.numbers;
+        reading.is_ok_and(|level| level < n.low_mark || level > n.high_mark)
     }
 
     // A reading that the monitor cannot go by: a fault, or a level past a mark.
     pub fn is_bad(&self, reading: Reading) -> bool
         ensures { result ≡ bad_reading self.now reading }
     {
-        match reading {
-            Reading::Faulty(_) => true,
-            Reading::Level(_) => self.is_past_mark(reading),
-        }
+        reading.is_err() || self.is_past_mark(reading)
     }
 
     // At or above the high limit.
     pub fn is_high(&self, reading: Reading) -> bool
         ensures { result ≡ high self.now reading }
     {
-        match reading {
-            Reading::Level(level) => level >= self.numbers.high_limit,
-            Reading::Faulty(_) => false,
-        }
+        reading.is_ok_and(|level| level >= self.numbers.high_limit)
     }
 
     // At or below the low limit.
     pub fn is_low(&self, reading: Reading) -> bool
         ensures { result ≡ low self.now reading }
     {
-        match reading {
-            Reading::Level(level) => level <= self.numbers.low_limit,
-            Reading::Faulty(_) => false,
-        }
+        reading.is_ok_and(|level| level <= self.numbers.low_limit)
     }
 
     pub fn is_out_of_limits(&self, reading: Reading) -> bool
@@ -58,10 +46,7 @@ impl Plate {
         ensures { result ≡ settled self.now reading }
     {
         let n = self.numbers;
-        match reading {
-            Reading::Level(level) => level >= n.low_limit + n.hysteresis
-                && level <= n.high_limit - n.hysteresis,
-            Reading::Faulty(_) => false,
-        }
+        reading.is_ok_and(|level| level >= n.low_limit + n.hysteresis
+            && level <= n.high_limit - n.hysteresis)
     }
 }

@@ -48,7 +48,7 @@ fn keeps_rules(n: PlateNumbers) -> bool
     ensures { result ≡ keeps_rules n }
 {
     n.low_mark < n.low_limit
-        && n.low_limit as u64 + 2 * n.hysteresis as u64 <= n.high_limit as u64
+        && u64::from(n.low_limit) + 2 * u64::from(n.hysteresis) <= u64::from(n.high_limit)
         && n.high_limit < n.high_mark
         && n.high_mark <= HIGHEST_MARK
         && n.hysteresis >= 1

@@ -1,5 +1,5 @@
 -- The words of the modes.
-use Rattle.std.specs.Prelude.{ℕ, List, ◌∷◌, ◌++◌, codes}
+use Rattle.std.specs.Prelude.{ℕ, List, codes}
 use Rattle.control.specs.declared.mode.FailureMode.{FailureMode}
 use Rattle.control.specs.declared.mode.FailureMode.TheVariants.{Allok, Badlevdev, Hardfail}
 use Rattle.control.specs.declared.mode.Mode.{Mode}
@@ -16,7 +16,3 @@ abbrev pub failure_name : FailureMode → List ℕ
 failure_name Allok = codes "allok"
 failure_name Badlevdev = codes "badlevdev"
 failure_name Hardfail = codes "hardfail"
-
--- both words, a space before each
-abbrev pub names : Mode → FailureMode → List ℕ
-names m f = 32 ∷ (mode_name m ++ (32 ∷ failure_name f))
