@@ -55,8 +55,8 @@ CHANGES = {
         (CALLS_SPEC, "abbrev pub after_step :", "abbrev fed : {G S : Type 0} → Monitor G S → Step → Monitor G S\nfed m s = record { gauge = m.gauge; switch = m.switch; plate = m.plate; state = record { mode = m.state.mode; failure = m.state.failure; signal = m.state.signal; watchdog = m.state.watchdog; time = s.time; entered = m.state.entered; reset = m.state.reset; test = m.state.test }; panel = m.panel }\n\nabbrev pub after_step :"),
     ],
     "a contact left closed at set-up": [
-        ("crates/monitor/src/set_up.rt", "    switch.open();\n", ""),
-        ("crates/monitor/src/set_up.rt", "    let mut switch = switch;\n", ""),
+        ("crates/monitor/src/set_up.rt", "        switch.open();\n", ""),
+        ("crates/monitor/src/set_up.rt", "mut switch: S", "switch: S"),
         (CALLS_SPEC, "record { gauge = g; switch = sm.opened s; plate = p;", "record { gauge = g; switch = s; plate = p;"),
     ],
 }

@@ -1,24 +1,20 @@
 -- Lower bounds on the times of the newest steps that are amiss, or out of limits and not settled since.
-use Rattle.std.proofs.Common.{◌≡◌, ℕ, ◌+◌, ◌≤◌, Bool, true, false, not, ◌&&◌, ◌||◌, leb, List, [], ◌∷◌, refl, inl, inr, arith}
+use Rattle.std.proofs.Common.{Ok, Err, ◌≡◌, ℕ, ◌+◌, ◌≤◌, Bool, true, false, not, ◌&&◌, List, [], ◌∷◌, arith}
 use Rattle.control.specs.Plate.{out_of_limits}
 use Rattle.control.specs.Plate as plate
 use Rattle.control.specs.declared.plate.Plate.{Plate}
-use Rattle.gauges.specs.declared.reading.Reading.{Reading}
-use Rattle.gauges.specs.declared.reading.Reading.TheVariants.{Level, Faulty}
+use Rattle.gauges.specs.Model.{Reading}
 use Rattle.monitor.specs.History.{Event}
-use Rattle.monitor.specs.Words.{amiss, on, out, out_before, settled, since, test_down, time}
-use Rattle.std.proofs.lemmas.Bool.{and_from, and_parts, and_right, or_cases, both_ways, leb-true, not-true}
+use Rattle.monitor.specs.Words.{amiss, out, out_before, settled, since, test_down, time}
 use Rattle.std.proofs.lemmas.Bool.Decides.{nat_tests}
 
 -- a settled level is within its limits
 pub settled_within : (p : Plate) (r : Reading) → plate.settled p r ≡ true → out_of_limits p r ≡ false
-settled_within p (Level u) s = let rules = p.ok in grind (arith, nat_tests)
-settled_within p (Faulty f) s = let z : ◌≡◌ {A = ℕ} 0 1 = cc in absurd (omega arith)
+settled_within p (Ok u) s = let rules = p.ok in grind (arith, nat_tests)
+settled_within p (Err f) s = cc
 
 pub settled_in : (p : Plate) (e : Event) → settled p e ≡ true → out p e ≡ false
-settled_in p e s =
-    let parts = and_parts (on e) (plate.settled p e.reading) s in
-    and_right (on e) (out_of_limits p e.reading) (settled_within p e.reading parts.1)
+settled_in p e s = grind (arith, nat_tests, settled_within)
 
 -- the newest steps, as long as they are amiss, came at x - k or later
 abbrev pub BadFrom : Plate → ℕ → ℕ → List Event → Type 0
@@ -30,14 +26,8 @@ bad_weaker p x k y j [] w b = tt
 bad_weaker p x k y j (e ∷ h) w b = λ a. (w (time e) (b a).0, bad_weaker p x k y j h w (b a).1)
 
 pub bad_bound : (p : Plate) (x k d t : ℕ) (h : List Event) → BadFrom p x k h → since (amiss p) d t h ≡ true → x + d ≤ t + k
-bad_bound p x k d t [] b s = absurd (both_ways _ refl s)
-bad_bound p x k d t (e ∷ h) b s =
-    let parts = and_parts (amiss p e h) (leb (time e + d) t || since (amiss p) d t h) s in
-    let bounds = b parts.0 in
-    elim (or_cases (leb (time e + d) t) (since (amiss p) d t h) parts.1) [
-      | inl long ↦ omega (arith, leb-true (time e + d) t long)
-      | inr more ↦ bad_bound p x k d t h bounds.1 more
-    ]
+bad_bound p x k d t [] b s = cc
+bad_bound p x k d t (e ∷ h) b s = grind (arith, nat_tests, b, bad_bound p x k d t h)
 
 -- the newest step is not amiss
 abbrev pub HeadFine : Plate → List Event → Type 0
@@ -46,7 +36,7 @@ HeadFine p (e ∷ h) = amiss p e h ≡ false
 
 pub bad_none : (p : Plate) (x k : ℕ) (h : List Event) → HeadFine p h → BadFrom p x k h
 bad_none p x k [] f = tt
-bad_none p x k (e ∷ h) f = λ a. absurd (both_ways _ f a)
+bad_none p x k (e ∷ h) f = λ a. cc
 
 -- out of limits with self test up
 abbrev pub untested_out : Plate → Event → Bool
@@ -58,14 +48,5 @@ OutsFrom p x [] = Unit {0}
 OutsFrom p x (e ∷ h) = (untested_out p e ≡ true → x ≤ time e) × (settled p e ≡ false → OutsFrom p x h)
 
 pub outs_bound : (p : Plate) (x t : ℕ) (h : List Event) → OutsFrom p x h → out_before p t h ≡ true → x + 200 ≤ t
-outs_bound p x t [] o b = absurd (both_ways _ refl b)
-outs_bound p x t (e ∷ h) o b =
-    let here = out p e && (not (test_down e) && leb (time e + 200) t) in
-    let parts = and_parts (on e && not (settled p e)) (here || out_before p t h) b in
-    elim (or_cases here (out_before p t h) parts.1) [
-      | inl first ↦
-          let both = and_parts (out p e) (not (test_down e) && leb (time e + 200) t) first in
-          let rest = and_parts (not (test_down e)) (leb (time e + 200) t) both.1 in
-          omega (arith, o.0 (and_from (out p e) (not (test_down e)) both.0 rest.0), leb-true (time e + 200) t rest.1)
-      | inr later ↦ outs_bound p x t h (o.1 (not-true (settled p e) (and_parts (on e) (not (settled p e)) parts.0).1)) later
-    ]
+outs_bound p x t [] o b = cc
+outs_bound p x t (e ∷ h) o b = grind (arith, nat_tests, outs_bound p x t h)

@@ -1,6 +1,5 @@
 -- The monitor follows the history, and so keeps the three promises.
-use Rattle.std.proofs.Common.{◌≡◌, Bool, true, false, cond, ◌&&◌, ltb, List, [], ◌∷◌, Some, None, Ok, Err, Option, Result, sym, refl, ap, ◌∙◌, subst, inl, inr}
-use Rattle.base.specs.Limits.{time_limit}
+use Rattle.std.proofs.Common.{◌≡◌, Bool, true, false, List, [], ◌∷◌, Some, None, Ok, Err, Option, Result, refl, ap, ◌∙◌, arith}
 use Rattle.control.specs.State.{drives}
 use Rattle.control.specs.Transition.{next_state}
 use Rattle.control.specs.declared.plate.Plate.{Plate}
@@ -8,17 +7,19 @@ use Rattle.gauges.specs.Model as gauge
 use Rattle.records.specs.Record.{read_at}
 use Rattle.records.specs.declared.fault.RecordFault.{RecordFault}
 use Rattle.records.specs.declared.step.Step.{Step}
+use Rattle.std.specs.List.{cons_option}
 use Rattle.std.specs.Result.{result_ok}
 use Rattle.switches.specs.Model as switch
 use Rattle.monitor.specs.Calls.{accepted, gauge_after, set_up, with_record, worked}
-use Rattle.monitor.specs.History.{Call, step, feed, readout, Event, accepted_steps, after_call, after_calls, brings, event, gauge_at, history, with_step}
+use Rattle.monitor.specs.History.{Call, step, feed, readout, Event, accepted_steps, after_call, after_calls, brings, event, gauge_at, history}
 use Rattle.monitor.specs.Promises.{LongReset, Promises}
 use Rattle.monitor.specs.Words.{amiss, lasted}
 use Rattle.monitor.specs.declared.monitor.Monitor.{Monitor}
 use Rattle.monitor.proofs.Fold.{state_of}
 use Rattle.monitor.proofs.Held.{long_reset_drives, quiet_on}
 use Rattle.monitor.proofs.Safety.{driven_rightly, no_long_spell}
-use Rattle.std.proofs.lemmas.Bool.{and_from, and_parts, both_ways, cases_Bool, cond-false, cond-true}
+use Rattle.std.proofs.lemmas.Bool.Decides.{nat_tests}
+use Rattle.std.proofs.lemmas.Bool.{false_from_ne_true, and_from, and_parts, both_ways}
 
 -- the laws of a switch that the promises rest on
 pub record Lawful {S : Type 0} (sm : switch.Model S) : Type 0 where
@@ -32,16 +33,12 @@ module _ {G S : Type 0} (gm : gauge.Model G) (sm : switch.Model S) where
   with_brought m None = m
   with_brought m (Some s) = accepted gm sm m s
 
-  stepped_is : (m : Monitor G S) (s : Step) (refused : Bool) → cond refused m (accepted gm sm m s) ≡ with_brought m (cond refused None (Some s))
-  stepped_is m s true = refl
-  stepped_is m s false = refl
-
   fed_is : (m : Monitor G S) (r : Result Step RecordFault) → with_record gm sm m r ≡ with_brought m (result_ok r)
   fed_is m (Ok s) = refl
   fed_is m (Err e) = refl
 
   pub called_is : (m : Monitor G S) (c : Call) → after_call gm sm m c ≡ with_brought m (brings c)
-  called_is m (step s) = stepped_is m s (ltb time_limit s.time)
+  called_is m (step s) = grind (arith, nat_tests)
   called_is m (feed bytes place) = fed_is m (read_at bytes place)
   called_is m (readout out) = refl
 
@@ -57,37 +54,26 @@ module _ {G S : Type 0} (gm : gauge.Model G) (sm : switch.Model S) where
 
     -- worked to be closed, the contact is closed exactly when the switch was free; worked to be open, it is open
     closed_if_free : (s : S) → sm.contact (worked sm s true) ≡ sm.free s
-    closed_if_free s =
-        elim (cases_Bool (sm.free s)) [
-          | inl free ↦ ap sm.contact (cond-true (sm.free s) (sm.closed s) s free) ∙ laws.free_closes s free ∙ sym free
-          | inr held ↦ ap sm.contact (cond-false (sm.free s) (sm.closed s) s held) ∙ elim (cases_Bool (sm.contact s)) [
-            | inl closed ↦ absurd (both_ways (sm.free s) held (laws.closed_is_free s closed))
-            | inr stays ↦ stays ∙ sym held
-          ]
-        ]
+    closed_if_free s = grind (arith, nat_tests, laws.free_closes s, laws.closed_is_free s)
 
     closed_if_worked : (s : S) (close : Bool) → sm.contact (worked sm s close) ≡ true → close ≡ true
-    closed_if_worked s true c = refl
-    closed_if_worked s false c = absurd (both_ways (sm.contact (sm.opened s)) (laws.open_opens s) c)
+    closed_if_worked s close c = grind (arith, nat_tests, laws.open_opens s)
 
     next_is : (ss : List Step) (m : Monitor G S) (s : Step) → Follows ss m
         → next_state m.plate m.state s (gm.reading (gauge_after gm m.gauge s)) ≡ state_of p (seen_by (s ∷ ss))
-    next_is ss m s f =
-        ap (λ x. next_state x m.state s (gm.reading (gauge_after gm m.gauge s))) f.plate_is
-        ∙ ap (λ x. next_state p x s (gm.reading (gauge_after gm m.gauge s))) f.state_is
-        ∙ ap (λ x. next_state p (state_of p (seen_by ss)) s (gm.reading (gauge_after gm x s))) f.gauge_is
+    next_is ss m s f = rw (f.plate_is, f.state_is, f.gauge_is)
 
     follows_step : (ss : List Step) (m : Monitor G S) (s : Step) → Follows ss m → Follows (s ∷ ss) (accepted gm sm m s)
     follows_step ss m s f =
         let st = next_state m.plate m.state s (gm.reading (gauge_after gm m.gauge s)) in
         record {
           plate_is = f.plate_is;
-          gauge_is = ap (λ x. gauge_after gm x s) f.gauge_is;
+          gauge_is = rw f.gauge_is;
           state_is = next_is ss m s f;
-          driven = λ c. ap drives (sym (next_is ss m s f)) ∙ (and_parts s.power (drives st) (closed_if_worked (sm.ticked m.switch s.time) (s.power && drives st) c)).1;
+          driven = λ c. rw (← next_is ss m s f) (and_parts s.power (drives st) (closed_if_worked (sm.ticked m.switch s.time) _ c)).1;
         }
 
-    follows_brought : (ss : List Step) (m : Monitor G S) (o : Option Step) → Follows ss m → Follows (with_step o ss) (with_brought m o)
+    follows_brought : (ss : List Step) (m : Monitor G S) (o : Option Step) → Follows ss m → Follows (cons_option o ss) (with_brought m o)
     follows_brought ss m None f = f
     follows_brought ss m (Some s) f = follows_step ss m s f
 
@@ -100,17 +86,12 @@ module _ {G S : Type 0} (gm : gauge.Model G) (sm : switch.Model S) where
         plate_is = refl;
         gauge_is = refl;
         state_is = refl;
-        driven = λ c. absurd (both_ways (sm.contact (sm.opened s₀)) (laws.open_opens s₀) c);
+        driven = λ c. absurd (both_ways _ (laws.open_opens s₀) c);
       }
-      follows (c ∷ cs) =
-          subst (Follows (accepted_steps (c ∷ cs))) (sym (called_is (at cs) c)) (follows_brought (accepted_steps cs) (at cs) (brings c) (follows cs))
+      follows (c ∷ cs) = rw (called_is (at cs) c) (follows_brought (accepted_steps cs) (at cs) (brings c) (follows cs))
 
       opens_in_time : (cs : List Call) → lasted (amiss p) 2700 (seen_by (accepted_steps cs)) ≡ true → sm.contact (at cs).switch ≡ false
-      opens_in_time cs bad =
-          elim (cases_Bool (sm.contact (at cs).switch)) [
-            | inl closed ↦ absurd (no_long_spell p (seen_by (accepted_steps cs)) bad ((follows cs).driven closed))
-            | inr stays ↦ stays
-          ]
+      opens_in_time cs bad = false_from_ne_true _ (λ closed. no_long_spell p (seen_by (accepted_steps cs)) bad ((follows cs).driven closed))
 
       closes_if_free : (c : Call) (cs : List Call) (s : Step) → brings c ≡ Some s
           → LongReset p (event gm g s (accepted_steps cs)) (seen_by (accepted_steps cs))
@@ -121,10 +102,8 @@ module _ {G S : Type 0} (gm : gauge.Model G) (sm : switch.Model S) where
           let m = at cs in
           let st = next_state m.plate m.state s (gm.reading (gauge_after gm m.gauge s)) in
           let drive = ap drives (next_is ss m s (follows cs)) ∙ long_reset_drives p e (seen_by ss) long in
-          let close = and_from s.power (drives st) (quiet_on p e (seen_by ss) long.calm) drive in
-          ap (λ x. sm.contact x.switch) (called_is m c ∙ ap (with_brought m) brought)
-          ∙ ap (λ b. sm.contact (worked sm (sm.ticked m.switch s.time) b)) close
-          ∙ closed_if_free (sm.ticked m.switch s.time)
+          let close = and_from _ _ (quiet_on p e (seen_by ss) long.calm) drive in
+          rw (called_is m c, brought, close) (closed_if_free (sm.ticked m.switch s.time))
 
       pub promises : Promises gm sm p g (set_up sm g s₀ p)
       promises = record {

@@ -1,5 +1,5 @@
 -- What each mode keeps, over powered histories without a fault, from one step to the next.
-use Rattle.std.proofs.Common.{◌≡◌, ℕ, ◌+◌, ◌-◌, ◌<◌, ◌≤◌, Bool, true, false, cond, not, ◌&&◌, ◌||◌, ltb, ◌⊎◌, List, ◌∷◌, refl, inl, inr, arith}
+use Rattle.std.proofs.Common.{◌≡◌, ℕ, ◌+◌, ◌-◌, ◌<◌, ◌≤◌, Bool, true, false, cond, ◌⊎◌, List, ◌∷◌, refl, inl, inr, arith}
 use Rattle.control.specs.Button.{pressed}
 use Rattle.control.specs.Modes.{is}
 use Rattle.control.specs.State.{operate}
@@ -12,10 +12,11 @@ use Rattle.control.specs.declared.mode.Signal.{Signal}
 use Rattle.control.specs.declared.mode_table.Conditions.{Conditions}
 use Rattle.control.specs.declared.plate.Plate.{Plate}
 use Rattle.monitor.specs.History.{Event}
-use Rattle.monitor.specs.Words.{amiss, began, button_time, faulty, full_reset, let_go_since_trip, level_trip, on, out, out_before, reset_down, reset_since_trip, settled, start, test_down, time, trip}
-use Rattle.monitor.proofs.Bounds.{BadFrom, HeadFine, OutsFrom, bad_none, bad_weaker, outs_bound, settled_in, untested_out}
-use Rattle.monitor.proofs.Moves.{Moves, stays_dark, waits, resets, tests_standby, runs, shuts, tests_operating, stays_shut, recovers, gives_up, tests_shutdown, tests_on, tested}
-use Rattle.std.proofs.lemmas.Bool.{and_from, and_left, and_parts, and_right, both_ways, cases_Bool, cond_both, cond-false, cond-true, le-ltb, lt-ltb, not_from_false, not_from_true, not-true, or_from, or_left, or_right}
+use Rattle.monitor.specs.Words.{amiss, button_time, faulty, let_go_since_trip, level_trip, on, out, reset_down, reset_since_trip, settled, start, test_down, time, trip}
+use Rattle.monitor.proofs.Bounds.{BadFrom, HeadFine, OutsFrom, bad_none, bad_weaker, outs_bound, settled_in}
+use Rattle.monitor.proofs.Moves.{Moves, stays_dark, waits, resets, tests, runs, shuts, stays_shut, recovers, gives_up, tests_on, tested}
+use Rattle.std.proofs.lemmas.Bool.Decides.{nat_tests}
+use Rattle.std.proofs.lemmas.Bool.{cases_Bool}
 
 -- A pump that may run, in operating or shutdown: a full reset since the last trip, let go if the signal is
 -- operate, and self test down for 500 ms at most.
@@ -77,179 +78,102 @@ pub record Sound (h : List Event) (e : Event) (now : ℕ) (test : Button) : Type
   pub pressed_by : test.since ≤ now
   pub test_time : button_time test_down e h ≡ time e - (test_at test e).since
 
-not_kept : (t r : Bool) → t ≡ false → r ≡ true → (not t && r) ≡ true
-not_kept t r n y = and_from (not t) r (not_from_false t n) y
-
--- a button's run at a step began then at the latest
-since_by : (test : Button) (e : Event) (now : ℕ) → test.since ≤ now → now < time e → (test_at test e).since ≤ time e
-since_by test e now before later =
-    cond_both (test_down e && test.down) test.since (time e) (λ x. x ≤ time e) (λ _. omega arith) (λ _. omega arith)
-
--- an up button counts from the step
-since_up : (test : Button) (e : Event) → test_down e ≡ false → (test_at test e).since ≡ time e
-since_up test e up = cond-false (test_down e && test.down) test.since (time e) (and_left (test_down e) test.down up)
+-- the signal in operating is operate since reset is up, or since it was
+how_operating : (reset : Bool) (sig : Signal) → operate (next_signal Operating Allok reset sig) ≡ true → (reset ≡ false) ⊎ (operate sig ≡ true)
+how_operating reset sig drives = grind (arith, nat_tests)
 
 module _ (p : Plate) (h : List Event) (e : Event) (now : ℕ) (test : Button) (s : Sound h e now test) where
+  -- self test's button at the step
+  abbrev test' : Button
+  test' = test_at test e
+
+  -- it counts from the step at the latest
+  since_by : test'.since ≤ time e
+  since_by = grind (arith, nat_tests)
+
   -- a good level is not amiss
   not_amiss : out p e ≡ false → amiss p e h ≡ false
-  not_amiss within = or_from (not (on e)) (faulty e || out p e) (not_from_true (on e) s.lit) (or_from (faulty e) (out p e) s.reads within)
+  not_amiss within = grind (arith, nat_tests)
 
-  amiss_out : amiss p e h ≡ true → out p e ≡ true
-  amiss_out a =
-      elim (cases_Bool (out p e)) [ inl o ↦ o | inr o ↦ absurd (both_ways (amiss p e h) (not_amiss o) a) ]
-
-  no_trip : time e - (test_at test e).since ≤ 500 → level_trip p e h ≡ false → trip p e h ≡ false
-  no_trip short level =
-      let little : ltb 500 (button_time test_down e h) ≡ false = le-ltb 500 (button_time test_down e h) (omega (arith, s.test_time)) in
-      or_from (start e h) (ltb 500 (button_time test_down e h) || level_trip p e h) s.going (or_from (ltb 500 (button_time test_down e h)) (level_trip p e h) little level)
+  no_trip : time e - test'.since ≤ 500 → level_trip p e h ≡ false → trip p e h ≡ false
+  no_trip short level = grind (arith, nat_tests)
 
   settled_level : settled p e ≡ true → level_trip p e h ≡ false
-  settled_level yes-settled =
-      and_right (on e) (not (test_down e) && (not (settled p e) && out_before p (time e) h))
-      (and_right (not (test_down e)) (not (settled p e) && out_before p (time e) h)
-      (and_left (not (settled p e)) (out_before p (time e) h) (not_from_true (settled p e) yes-settled)))
+  settled_level calm = grind (arith, nat_tests)
 
   -- no level trip where every untested bad level came less than 200 ms before
   recent_level : (x : ℕ) → OutsFrom p x h → (test_down e ≡ false → time e < x + 200) → level_trip p e h ≡ false
-  recent_level x outs recent =
-      elim (cases_Bool (level_trip p e h)) [
-        | inl trips ↦
-            let a = and_parts (on e) (not (test_down e) && (not (settled p e) && out_before p (time e) h)) trips in
-            let b = and_parts (not (test_down e)) (not (settled p e) && out_before p (time e) h) a.1 in
-            let c = and_parts (not (settled p e)) (out_before p (time e) h) b.1 in
-            absurd (omega (arith, outs_bound p x (time e) h outs c.1, recent (not-true (test_down e) b.0)))
-        | inr none ↦ none
+  recent_level x outs recent = grind (arith, nat_tests, outs_bound p x (time e) h outs)
+
+  -- still ready after a step with no trip
+  stays_ready : (sig sig' : Signal) → Ready p h sig now test → time e - test'.since ≤ 500 → level_trip p e h ≡ false
+      → (operate sig' ≡ true → (e.step.reset ≡ false) ⊎ (operate sig ≡ true))
+      → Ready p (e ∷ h) sig' (time e) test'
+  stays_ready sig sig' ready short level how = let none = no_trip short level in grind (arith, nat_tests)
+
+  -- a level that is bad only with self test down
+  no_outs_on : (x : ℕ) → (test_down e ≡ false → out p e ≡ false) → OutsFrom p x h → OutsFrom p x (e ∷ h)
+  no_outs_on x tested-only outs = grind (arith, nat_tests)
+
+  bad_on : (test_down e ≡ false → out p e ≡ false) → (test.down ≡ false → HeadFine p h) → BadFrom p test.since 0 h → amiss p e h ≡ true → BadFrom p test'.since 0 h
+  bad_on tested-only up bad a =
+      elim (cases_Bool test.down) [
+        | inl was ↦ bad_weaker p test.since 0 test'.since 0 h (λ n b. grind (arith, nat_tests)) bad
+        | inr was ↦ bad_none p test'.since 0 h (up was)
       ]
 
-  -- still ready after a step that is no trip
-  stays_ready : (sig sig' : Signal) → Ready p h sig now test → trip p e h ≡ false → time e - (test_at test e).since ≤ 500
-      → (operate sig' ≡ true → (e.step.reset ≡ false) ⊎ (operate sig ≡ true))
-      → Ready p (e ∷ h) sig' (time e) (test_at test e)
-  stays_ready sig sig' ready none short how = record {
-    reset = not_kept (trip p e h) (full_reset p e h || reset_since_trip p h) none (or_right (full_reset p e h) (reset_since_trip p h) ready.reset);
-    let_go = λ drives. not_kept (trip p e h) ((not e.step.reset && reset_since_trip p h) || let_go_since_trip p h) none
-        (elim (how drives) [
-          | inl up ↦ or_left (not e.step.reset && reset_since_trip p h) (let_go_since_trip p h) (and_from (not e.step.reset) (reset_since_trip p h) (not_from_false e.step.reset up) ready.reset)
-          | inr before ↦ or_right (not e.step.reset && reset_since_trip p h) (let_go_since_trip p h) (ready.let_go before)
-        ]);
-    brief = omega (arith, since_by test e now s.pressed_by s.later);
-  }
+  -- self test was not pressed since long before shutdown
+  pressed_on : (entered : ℕ) → test.since ≤ entered + 698 → (test.down ≡ false → now < entered + 200) → (test_down e ≡ false → time e < entered + 200) → test'.since ≤ entered + 698
+  pressed_on entered pressed up near = grind (arith, nat_tests)
 
--- a button with a time is down
-button_down : (down : Event → Bool) (e : Event) (h : List Event) → 0 < button_time down e h → down e ≡ true
-button_down down e h held =
-    elim (cases_Bool (down e)) [ inl d ↦ d | inr u ↦ absurd (omega (arith, cond-false (down e) (time e - began down h (time e)) 0 u)) ]
+  module _ (sig : Signal) where
+    abbrev operating : Signal
+    operating = next_signal Operating Allok e.step.reset sig
 
--- the signal in operating is operate since reset is up, or since it was
-how_operating : (reset : Bool) (sig : Signal) → operate (next_signal Operating Allok reset sig) ≡ true → (reset ≡ false) ⊎ (operate sig ≡ true)
-how_operating true sig yes-drives = inr yes-drives
-how_operating false sig yes-drives = inl refl
+    -- operating entered or kept at a settled level
+    runs_settled : settled p e ≡ true → Ready p (e ∷ h) operating (time e) test' → Runs p (e ∷ h) operating (time e) test'
+    runs_settled calm ready = grind (arith, nat_tests, settled_in, not_amiss)
 
-module _ (p : Plate) (h : List Event) (e : Event) (now : ℕ) (sig : Signal) (test : Button) (s : Sound h e now test) where
-  -- operating entered or kept at a settled level
-  runs_settled : settled p e ≡ true → Ready p (e ∷ h) (next_signal Operating Allok e.step.reset sig) (time e) (test_at test e)
-      → Runs p (e ∷ h) (next_signal Operating Allok e.step.reset sig) (time e) (test_at test e)
-  runs_settled calm ready =
-      let within = settled_in p e calm in
-      let fine = not_amiss p h e now test s within in
-      record {
-        ready = ready;
-        no_outs = λ x. ((λ o. absurd (both_ways (untested_out p e) (and_left (out p e) (not (test_down e)) within) o)), (λ n. absurd (both_ways (settled p e) n calm)));
-        bad = λ a. absurd (both_ways (amiss p e h) fine a);
-        up = λ _. fine;
-      }
+    -- operating entered by a full reset, which is not let go yet
+    resets_now : time e - test'.since ≤ 500 → 3000 < button_time reset_down e h → settled p e ≡ true → operate sig ≡ false → Runs p (e ∷ h) operating (time e) test'
+    resets_now short long calm silent = let none = no_trip short (settled_level calm) in runs_settled calm (grind (arith, nat_tests))
 
-  -- operating goes on
-  runs_on : Runs p h sig now test → time e - (test_at test e).since ≤ 500 → (test_down e ≡ false → out p e ≡ false)
-      → Runs p (e ∷ h) (next_signal Operating Allok e.step.reset sig) (time e) (test_at test e)
-  runs_on r short tested-only =
-      let none = no_trip p h e now test s short (recent_level p h e now test s (time e) (r.no_outs (time e)) (λ _. omega arith)) in
-      record {
-        ready = stays_ready p h e now test s sig _ r.ready none short (how_operating e.step.reset sig);
-        no_outs = λ x. (
-          (λ o. let parts = and_parts (out p e) (not (test_down e)) o in absurd (both_ways (out p e) (tested-only (not-true (test_down e) parts.1)) parts.0)),
-          (λ _. r.no_outs x),
-        );
-        bad = λ a.
-            let o = amiss_out p h e now test s a in (
-              omega (arith, since_by test e now s.pressed_by s.later),
-              elim (cases_Bool (test_down e)) [
-                | inl down ↦ elim (cases_Bool test.down) [
-                  | inl was ↦ let same = cond-true (test_down e && test.down) test.since (time e) (and_from (test_down e) test.down down was) in
-                      bad_weaker p test.since 0 (test_at test e).since 0 h (λ n b. omega (arith, same)) r.bad
-                  | inr was ↦ bad_none p (test_at test e).since 0 h (r.up was)
-                ]
-                | inr up ↦ absurd (both_ways (out p e) (tested-only up) o)
-              ],
-            );
-        up = λ up. not_amiss p h e now test s (tested-only up);
-      }
+    -- operating goes on
+    runs_on : time e - test'.since ≤ 500 → Runs p h sig now test → (test_down e ≡ false → out p e ≡ false) → Runs p (e ∷ h) operating (time e) test'
+    runs_on short r tested-only = record {
+      ready = stays_ready sig operating r.ready short (recent_level (time e) (r.no_outs (time e)) (λ _. omega arith)) (how_operating e.step.reset sig);
+      no_outs = λ x. no_outs_on x tested-only (r.no_outs x);
+      bad = λ a. (omega (arith, since_by), bad_on tested-only r.up r.bad a);
+      up = λ up. not_amiss (tested-only up);
+    }
 
-  -- shutdown entered
-  shuts_now : Runs p h sig now test → time e - (test_at test e).since ≤ 500 → test_down e ≡ false
-      → Shuts p (e ∷ h) sig (time e) (time e) (test_at test e)
-  shuts_now r short up =
-      let none = no_trip p h e now test s short (recent_level p h e now test s (time e) (r.no_outs (time e)) (λ _. omega arith)) in
-      record {
-        ready = stays_ready p h e now test s sig sig r.ready none short inr;
-        entered_by = omega arith;
-        outs = ((λ _. omega arith), (λ _. r.no_outs (time e)));
-        bad = λ a. (omega arith, bad_weaker p test.since 0 (time e) 999 h (λ n b. omega (arith, r.ready.brief, s.soon)) r.bad);
-        pressed_by = omega (arith, since_by test e now s.pressed_by s.later);
-        up = λ _. omega arith;
-      }
+    -- shutdown entered
+    shuts_now : time e - test'.since ≤ 500 → Runs p h sig now test → test_down e ≡ false → Shuts p (e ∷ h) sig (time e) (time e) test'
+    shuts_now short r up =
+        let outs = r.no_outs (time e) in
+        let ready = stays_ready sig sig r.ready short (recent_level (time e) outs (λ _. omega arith)) inr in
+        let bad = bad_weaker p test.since 0 (time e) 999 h (λ n b. omega arith) r.bad in
+        grind (arith, nat_tests)
 
-  -- shutdown goes on
-  shuts_on : (entered : ℕ) → Shuts p h sig now entered test → time e - (test_at test e).since ≤ 500 → (test_down e ≡ false → time e - entered < 200)
-      → Shuts p (e ∷ h) sig (time e) entered (test_at test e)
-  shuts_on entered r short recent =
-      let near : test_down e ≡ false → time e < entered + 200 = λ up. omega (arith, recent up) in
-      let none = no_trip p h e now test s short (recent_level p h e now test s entered r.outs near) in
-      record {
-        ready = stays_ready p h e now test s sig sig r.ready none short inr;
-        entered_by = omega (arith, r.entered_by, s.later);
-        outs = ((λ _. omega (arith, r.entered_by, s.later)), (λ _. r.outs));
-        bad = λ a. (omega (arith, r.entered_by, s.later), r.bad);
-        pressed_by = elim (cases_Bool (test_down e)) [
-          | inl down ↦ elim (cases_Bool test.down) [
-            | inl was ↦ omega (arith, cond-true (test_down e && test.down) test.since (time e) (and_from (test_down e) test.down down was), r.pressed_by)
-            | inr was ↦ omega (arith, since_by test e now s.pressed_by s.later, r.up was, s.soon)
-          ]
-          | inr up ↦ omega (arith, since_up test e up, near up)
-        ];
-        up = near;
-      }
+    -- shutdown goes on
+    shuts_on : (entered : ℕ) → time e - test'.since ≤ 500 → Shuts p h sig now entered test → (test_down e ≡ false → time e - entered < 200) → Shuts p (e ∷ h) sig (time e) entered test'
+    shuts_on entered short r recent =
+        let near : test_down e ≡ false → time e < entered + 200 = λ up. omega (arith, recent up) in
+        let ready = stays_ready sig sig r.ready short (recent_level entered r.outs near) inr in
+        let pressed = pressed_on entered r.pressed_by r.up near in
+        grind (arith, nat_tests)
 
-  -- operating entered by a full reset, which is not let go yet
-  resets_now : time e - (test_at test e).since ≤ 500 → 3000 < button_time reset_down e h → settled p e ≡ true → operate sig ≡ false
-      → Runs p (e ∷ h) (next_signal Operating Allok e.step.reset sig) (time e) (test_at test e)
-  resets_now short long calm silent =
-      let none = no_trip p h e now test s short (settled_level p h e now test s calm) in
-      let full = and_from (ltb 3000 (button_time reset_down e h)) (settled p e) (lt-ltb 3000 (button_time reset_down e h) long) calm in
-      let down = (and_parts (on e) e.step.reset (button_down reset_down e h (omega arith))).1 in
-      runs_settled calm record {
-        reset = not_kept (trip p e h) (full_reset p e h || reset_since_trip p h) none (or_left (full_reset p e h) (reset_since_trip p h) full);
-        let_go = λ drives. elim (how_operating e.step.reset sig drives) [
-          | inl up ↦ absurd (both_ways e.step.reset up down)
-          | inr was ↦ absurd (both_ways (operate sig) silent was)
-        ];
-        brief = omega (arith, since_by test e now s.pressed_by s.later);
-      }
-
-  -- from one step to the next, whichever row of the table was taken
-  pub to_mode : (m n : Mode) (entered : ℕ) → Moves (seen p h e entered test) m n → ByMode p m h sig now entered test
-      → ByMode p n (e ∷ h) (next_signal n Allok e.step.reset sig) (time e) (cond (is n m) entered (time e)) (test_at test e)
-  to_mode _ _ entered stays_dark b = absurd b
-  to_mode _ _ entered (waits short calm) b = refl
-  to_mode _ _ entered (resets short long calm) b = resets_now short long calm b
-  to_mode _ _ entered (tests_standby long) b = record { silent = refl; entered_by = omega arith; lasts = omega arith }
-  to_mode _ _ entered (runs short tested-only) b = runs_on b short tested-only
-  to_mode _ _ entered (shuts short up o) b = shuts_now b short up
-  to_mode _ _ entered (tests_operating long) b = record { silent = refl; entered_by = omega arith; lasts = omega arith }
-  to_mode _ _ entered (stays_shut short recent) b = shuts_on entered b short (λ up. (recent up).0)
-  to_mode _ _ entered (recovers short up calm) b =
-      runs_settled calm (stays_ready p h e now test s sig _ b.ready (no_trip p h e now test s short (settled_level p h e now test s calm)) short (how_operating e.step.reset sig))
-  to_mode _ _ entered (gives_up up) b = refl
-  to_mode _ _ entered (tests_shutdown long) b = record { silent = refl; entered_by = omega arith; lasts = omega arith }
-  to_mode _ _ entered (tests_on short) b = record { silent = refl; entered_by = omega (arith, b.entered_by, s.later); lasts = omega (arith, b.entered_by) }
-  to_mode _ _ entered tested b = refl
+    -- from one step to the next, whichever row of the table was taken
+    pub to_mode : (m n : Mode) (entered : ℕ) → Moves (seen p h e entered test) m n → ByMode p m h sig now entered test
+        → ByMode p n (e ∷ h) (next_signal n Allok e.step.reset sig) (time e) (cond (is n m) entered (time e)) test'
+    to_mode _ _ entered stays_dark b = absurd b
+    to_mode _ _ entered (waits short calm) b = refl
+    to_mode _ _ entered (resets short long calm) b = resets_now short long calm b
+    to_mode _ _ entered (tests other long) b = grind arith
+    to_mode _ _ entered (runs short tested-only) b = runs_on short b tested-only
+    to_mode _ _ entered (shuts short up o) b = shuts_now short b up
+    to_mode _ _ entered (stays_shut short recent) b = shuts_on entered short b (λ up. (recent up).0)
+    to_mode _ _ entered (recovers short up calm) b = runs_settled calm (stays_ready sig operating b.ready short (settled_level calm) (how_operating e.step.reset sig))
+    to_mode _ _ entered (gives_up up) b = refl
+    to_mode _ _ entered (tests_on short) b = grind arith
+    to_mode _ _ entered tested b = refl

@@ -6,7 +6,5 @@ pub mod Invariant
 pub mod Logic
 pub mod Meanings
 pub mod Moves
-pub mod Reading
 pub mod Resets
 pub mod Safety
-pub mod Witnesses

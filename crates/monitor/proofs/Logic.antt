@@ -1,6 +1,5 @@
 -- Facts about tests alone, over variables.
-use Rattle.std.proofs.Common.{◌≡◌, ℕ, ◌-◌, Bool, true, false, cond, not, ◌&&◌, ◌||◌, sym, refl, arith}
-use native.Mathlib.Nat.{sub_self}
+use Rattle.std.proofs.Common.{Ok, Err, is_err, ◌≡◌, Bool, true, false, cond, not, ◌&&◌, ◌||◌, refl, arith}
 use Rattle.control.specs.Modes.{allok}
 use Rattle.control.specs.Plate.{past_mark}
 use Rattle.control.specs.State.{watched}
@@ -10,9 +9,7 @@ use Rattle.control.specs.declared.mode.FailureMode.TheVariants.{Allok, Badlevdev
 use Rattle.control.specs.declared.mode.Watchdog.{Watchdog}
 use Rattle.control.specs.declared.mode.Watchdog.TheVariants as watchdog
 use Rattle.control.specs.declared.plate.Plate.{Plate}
-use Rattle.gauges.specs.declared.reading.Reading.{Reading}
-use Rattle.gauges.specs.declared.reading.Reading.TheVariants.{Level, Faulty}
-use Rattle.monitor.specs.Words.{is_fault}
+use Rattle.gauges.specs.Model.{Reading}
 use Rattle.std.proofs.lemmas.Bool.Decides.{nat_tests}
 
 pub allok_worse : (f : FailureMode) (failed bad : Bool) → allok (worse f failed bad) ≡ (allok f && (not failed && not bad))
@@ -26,16 +23,15 @@ allok_worse Hardfail false bad = refl
 
 pub allok_is : (f : FailureMode) → allok f ≡ true → f ≡ Allok
 allok_is Allok a = refl
-allok_is Badlevdev a = let z : ◌≡◌ {A = ℕ} 0 1 = cc in absurd (omega arith)
-allok_is Hardfail a = let z : ◌≡◌ {A = ℕ} 0 1 = cc in absurd (omega arith)
+allok_is Badlevdev a = cc
+allok_is Hardfail a = cc
 
 pub watched_unless : (late : Bool) (w : Watchdog) → watched (cond late watchdog.Shut w) ≡ (not late && watched w)
-watched_unless true w = refl
-watched_unless false w = refl
+watched_unless late w = grind (arith, nat_tests)
 
-pub bad_is : (p : Plate) (r : Reading) → bad_reading p r ≡ (is_fault r || past_mark p r)
-bad_is p (Level u) = refl
-bad_is p (Faulty f) = refl
+pub bad_is : (p : Plate) (r : Reading) → bad_reading p r ≡ (is_err r || past_mark p r)
+bad_is p (Ok u) = refl
+bad_is p (Err f) = refl
 
 -- the start's own faults decide
 pub key_start : (o st mem clk flt pst ill fl : Bool) → o ≡ true → st ≡ true
@@ -48,25 +44,15 @@ pub key_moved : (o pw st mem clk back late flt pst f w fl : Bool) → o ≡ true
     ≡ (o && (not (o && (mem || (clk || ((o && flt) || ((o && pst) || (not st && (back || late))))))) && (st || fl)))
 key_moved o pw st mem clk back late flt pst f w fl lit going powers before = grind (arith, nat_tests)
 
--- a run of presses goes on, or begins now
-pub run_goes_on : (d k : Bool) (b tc t : ℕ) → cond (d && k) (cond k b tc) t ≡ cond d (cond k b t) t
-run_goes_on true true b tc t = refl
-run_goes_on true false b tc t = refl
-run_goes_on false k b tc t = refl
+-- with power on and no fault, past the start: none before, and neither a faulty reading nor an ill-timed step
+pub clean_parts : (o mem clk flt pst st ill fl : Bool) → o ≡ true → st ≡ false
+    → (o && (not (o && (mem || (clk || (flt || (pst || (not st && ill)))))) && (st || fl))) ≡ true
+    → (fl ≡ true) × ((flt ≡ false) × (ill ≡ false))
+clean_parts o mem clk flt pst st ill fl lit going clean = grind (arith, nat_tests)
 
-pub same_cond : (b : Bool) (t : ℕ) → cond b t t ≡ t
-same_cond true t = refl
-same_cond false t = refl
+-- what drives the pump has no fault
+pub still_well : (o f w y : Bool) → (o && w) ≡ true → (f ≡ false → o ≡ false) → (f && w) ≡ y → y ≡ true
+still_well o f w y drives silent key = grind (arith, nat_tests)
 
-pub time_pressed : (d : Bool) (b t : ℕ) → cond d (t - b) 0 ≡ t - cond d b t
-time_pressed true b t = refl
-time_pressed false b t = sym (sub_self t)
-
--- with power on, no fault: neither a faulty reading nor, past the start, an ill-timed step
-pub clean_parts : (o mem clk flt pst st ill : Bool) → o ≡ true → st ≡ false → (o && (mem || (clk || (flt || (pst || (not st && ill)))))) ≡ false
-    → (flt ≡ false) × (ill ≡ false)
-clean_parts o mem clk flt pst st ill lit going none = (grind (arith, nat_tests), grind (arith, nat_tests))
-
-pub or_second : (a b : Bool) → a ≡ false → (a || b) ≡ true → b ≡ true
-or_second true b n y = let z : ◌≡◌ {A = ℕ} 0 1 = cc in absurd (omega arith)
-or_second false b n y = y
+pub quiet_parts : (o f s t : Bool) → (o && (not f && (s && not t))) ≡ true → (s ≡ true) × (t ≡ false)
+quiet_parts o f s t quiet = (grind (arith, nat_tests), grind (arith, nat_tests))

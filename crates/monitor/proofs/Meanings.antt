@@ -1,30 +1,29 @@
 -- The recursive words mean what the plain words say, both ways.
-use Rattle.std.proofs.Common.{◌≡◌, ℕ, Bool, true, false, ◌||◌, List, [], ◌∷◌, ◌++◌, sym, refl, ap, ◌∙◌, subst, inl, inr, arith}
+use Rattle.std.proofs.Common.{◌≡◌, ℕ, Bool, true, List, [], ◌∷◌, ◌++◌, sym, refl, inl, inr, arith}
 use Rattle.monitor.specs.History.{Event}
 use Rattle.monitor.specs.Meanings.{BeganMeans, Each, Ended, Found, LatelyMeans, Presses, oldest}
 use Rattle.monitor.specs.Words.{began, lately, time}
-use Rattle.std.proofs.lemmas.Bool.{and_from, and_parts, both_ways, cases_Bool, cond-false, cond-true, or_cases, or_left, or_right}
+use Rattle.std.proofs.lemmas.Bool.Decides.{nat_tests}
+use Rattle.std.proofs.lemmas.Bool.{and_parts, cases_Bool, or_cases}
 
 -- nothing holds a step in no steps
 each_none : (test : Event → List Event → Bool) (rest : List Event) → Each test [] rest
-each_none test rest [] x b e = let z : ◌≡◌ {A = ℕ} 0 1 = cc in absurd (omega arith)
-each_none test rest (c ∷ a) x b e = let z : ◌≡◌ {A = ℕ} 0 1 = cc in absurd (omega arith)
+each_none test rest [] x b e = cc
+each_none test rest (c ∷ a) x b e = cc
 
 each_more : (test : Event → List Event → Bool) (e : Event) (newer rest : List Event) → test e (newer ++ rest) ≡ true → Each test newer rest → Each test (e ∷ newer) rest
 each_more test e newer rest here each [] x b is =
     let head : e ≡ x = cc in
     let tail : newer ≡ b = cc in
-    subst (λ y. test y (b ++ rest) ≡ true) head (subst (λ l. test e (l ++ rest) ≡ true) tail here)
-each_more test e newer rest here each (c ∷ a) x b is =
-    let tail : newer ≡ a ++ (x ∷ b) = cc in
-    each a x b tail
+    rw (← head, ← tail) here
+each_more test e newer rest here each (c ∷ a) x b is = each a x b (cc)
 
 -- the newest, and the others
 each_first : (test : Event → List Event → Bool) (e : Event) (newer rest : List Event) → Each test (e ∷ newer) rest → test e (newer ++ rest) ≡ true
 each_first test e newer rest each = each [] e newer refl
 
 each_rest : (test : Event → List Event → Bool) (e : Event) (newer rest : List Event) → Each test (e ∷ newer) rest → Each test newer rest
-each_rest test e newer rest each a x b is = each (e ∷ a) x b (ap (λ l. e ∷ l) is)
+each_rest test e newer rest each a x b is = each (e ∷ a) x b (cc)
 
 module _ (kept hit : Event → List Event → Bool) where
   found_next : (e : Event) (h : List Event) → kept e h ≡ true → Found kept hit h → Found kept hit (e ∷ h)
@@ -32,32 +31,32 @@ module _ (kept hit : Event → List Event → Bool) where
     newer = e ∷ f.newer;
     step = f.step;
     older = f.older;
-    splits = ap (λ l. e ∷ l) f.splits;
+    splits = cc;
     hits = f.hits;
     keeps = f.keeps;
-    since = each_more kept e f.newer (f.step ∷ f.older) (subst (λ l. kept e l ≡ true) f.splits keeps) f.since;
+    since = each_more kept e f.newer (f.step ∷ f.older) (rw (← f.splits) keeps) f.since;
   }
 
   to_found : (h : List Event) → lately kept hit h ≡ true → Found kept hit h
-  to_found [] l = absurd (both_ways false refl l)
+  to_found [] l = cc
   to_found (e ∷ h) l =
-      let parts = and_parts (kept e h) (hit e h || lately kept hit h) l in
-      elim (or_cases (hit e h) (lately kept hit h) parts.1) [
+      let parts = and_parts (kept e h) _ l in
+      elim (or_cases (hit e h) _ parts.1) [
         | inl here ↦ record { newer = []; step = e; older = h; splits = refl; hits = here; keeps = parts.0; since = each_none kept (e ∷ h) }
         | inr more ↦ found_next e h parts.0 (to_found h more)
       ]
 
   from_split : (newer : List Event) (s : Event) (older : List Event) → hit s older ≡ true → kept s older ≡ true → Each kept newer (s ∷ older) → lately kept hit (newer ++ (s ∷ older)) ≡ true
-  from_split [] s older hits keeps each = and_from (kept s older) (hit s older || lately kept hit older) keeps (or_left (hit s older) (lately kept hit older) hits)
+  from_split [] s older hits keeps each = grind (arith, nat_tests)
   from_split (e ∷ newer) s older hits keeps each =
-      let h = newer ++ (s ∷ older) in
-      and_from (kept e h) (hit e h || lately kept hit h) (each_first kept e newer (s ∷ older) each)
-      (or_right (hit e h) (lately kept hit h) (from_split newer s older hits keeps (each_rest kept e newer (s ∷ older) each)))
+      let here = each_first kept e newer (s ∷ older) each in
+      let more = from_split newer s older hits keeps (each_rest kept e newer (s ∷ older) each) in
+      grind (arith, nat_tests)
 
 pub lately_means : LatelyMeans
 lately_means kept hit h = (
   to_found kept hit h,
-  λ f. ap (lately kept hit) f.splits ∙ from_split kept hit f.newer f.step f.older f.hits f.keeps f.since,
+  λ f. rw f.splits (from_split kept hit f.newer f.step f.older f.hits f.keeps f.since),
 )
 
 module _ (down : Event → Bool) where
@@ -65,7 +64,7 @@ module _ (down : Event → Bool) where
   pressed_next e h t first d p = record {
     run = e ∷ p.run;
     before = p.before;
-    splits = ap (λ l. e ∷ l) p.splits;
+    splits = cc;
     down_all = each_more (λ x _. down x) e p.run p.before d p.down_all;
     ended = p.ended;
     first_is = p.first_is;
@@ -75,22 +74,23 @@ module _ (down : Event → Bool) where
   to_presses [] t first b = record { run = []; before = []; splits = refl; down_all = each_none (λ x _. down x) []; ended = tt; first_is = sym b }
   to_presses (e ∷ h) t first b =
       elim (cases_Bool (down e)) [
-        | inl d ↦ pressed_next e h t first d (to_presses h (time e) first (sym (cond-true (down e) (began down h (time e)) t d) ∙ b))
-        | inr u ↦ record { run = []; before = e ∷ h; splits = refl; down_all = each_none (λ x _. down x) (e ∷ h); ended = u; first_is = sym b ∙ cond-false (down e) (began down h (time e)) t u }
+        | inl d ↦ pressed_next e h t first d (to_presses h (time e) first (grind (arith, nat_tests)))
+        | inr u ↦ record { run = []; before = e ∷ h; splits = refl; down_all = each_none (λ x _. down x) (e ∷ h); ended = u; first_is = grind (arith, nat_tests) }
       ]
 
   ended_began : (h : List Event) (t : ℕ) → Ended down h → began down h t ≡ t
   ended_began [] t u = refl
-  ended_began (e ∷ h) t u = cond-false (down e) (began down h (time e)) t u
+  ended_began (e ∷ h) t u = grind (arith, nat_tests)
 
   from_run : (run before : List Event) (t : ℕ) → Each (λ x _. down x) run before → Ended down before → began down (run ++ before) t ≡ oldest run t
   from_run [] before t each u = ended_began before t u
   from_run (e ∷ run) before t each u =
-      cond-true (down e) (began down (run ++ before) (time e)) t (each_first (λ x _. down x) e run before each)
-      ∙ from_run run before (time e) (each_rest (λ x _. down x) e run before each) u
+      let here = each_first (λ x _. down x) e run before each in
+      let more = from_run run before (time e) (each_rest (λ x _. down x) e run before each) u in
+      grind (arith, nat_tests)
 
 pub began_means : BeganMeans
 began_means down h t first = (
   to_presses down h t first,
-  λ p. ap (λ l. began down l t) p.splits ∙ from_run down p.run p.before t p.down_all p.ended ∙ sym p.first_is,
+  λ p. rw (p.splits, p.first_is) (from_run down p.run p.before t p.down_all p.ended),
 )

@@ -1,5 +1,6 @@
 -- A long reset: after 14,500 ms of quiet steps with reset down the mode is operating, and letting go drives the pump.
-use Rattle.std.proofs.Common.{◌≡◌, ℕ, ◌+◌, ◌-◌, ◌<◌, ◌≤◌, true, false, cond, ◌&&◌, List, refl, inl, inr, arith}
+use Rattle.std.proofs.Common.{◌≡◌, ℕ, ◌+◌, ◌-◌, ◌<◌, ◌≤◌, true, false, cond, List, refl, arith}
+use Rattle.control.specs.ModeTable.{next_mode}
 use Rattle.control.specs.Modes.{is}
 use Rattle.control.specs.declared.button.Button.{Button}
 use Rattle.control.specs.declared.mode.Mode.{Mode}
@@ -10,8 +11,8 @@ use Rattle.monitor.specs.History.{Event}
 use Rattle.monitor.specs.Words.{button_time, out, reset_down, settled, test_down, time}
 use Rattle.monitor.proofs.Bounds.{settled_in}
 use Rattle.monitor.proofs.Invariant.{ByMode, Sound, seen, test_at}
-use Rattle.monitor.proofs.Moves.{Moves, stays_dark, waits, resets, tests_standby, runs, shuts, tests_operating, stays_shut, recovers, gives_up, tests_shutdown, tests_on, tested}
-use Rattle.std.proofs.lemmas.Bool.{and_left, both_ways, cases_lt, cond-false}
+use Rattle.monitor.proofs.Moves.{Moves, stays_dark, waits, resets, tests, runs, shuts, stays_shut, recovers, gives_up, tests_on, tested}
+use Rattle.std.proofs.lemmas.Bool.Decides.{nat_tests}
 
 -- Where a long reset that began at r has led: to operating at last.
 abbrev pub Leads : ℕ → Mode → ℕ → ℕ → Type 0
@@ -29,63 +30,53 @@ pub record Calm (p : Plate) (e : Event) : Type 0 where
 module _ (p : Plate) (h : List Event) (e : Event) (now entered : ℕ) (test : Button) (s : Sound h e now test) (q : Calm p e) where
   -- self test is up, so its time is 0
   untested : 500 < time e - (test_at test e).since → ⊥
-  untested long = omega (arith, cond-false (test_down e && test.down) test.since (time e) (and_left (test_down e) test.down q.up))
+  untested long = grind (arith, nat_tests)
 
   in_limits : out p e ≡ true → ⊥
-  in_limits o = both_ways (out p e) (settled_in p e q.calm) o
+  in_limits o = let within = settled_in p e q.calm in cc
 
   -- a settled step waits in standby only while reset is short
   not_long : (3000 < button_time reset_down e h → settled p e ≡ false) → button_time reset_down e h ≤ 3000
-  not_long long =
-      elim (cases_lt 3000 (button_time reset_down e h)) [
-        | inl past ↦ absurd (both_ways (settled p e) (long past) q.calm)
-        | inr short ↦ short
-      ]
+  not_long long = grind (arith, nat_tests)
 
   -- the first quiet step of it, at r
-  pub begins : (sig : Signal) (m n : Mode) → Moves (seen p h e entered test) m n → ByMode p m h sig now entered test → Leads (time e) n (time e) (cond (is n m) entered (time e))
-  begins sig _ _ stays_dark b = absurd b
-  begins sig _ _ (waits a c) b = omega arith
-  begins sig _ _ (resets a c d) b = tt
-  begins sig _ _ (tests_standby long) b = absurd (untested long)
-  begins sig _ _ (runs a c) b = tt
-  begins sig _ _ (shuts a c o) b = absurd (in_limits o)
-  begins sig _ _ (tests_operating long) b = absurd (untested long)
-  begins sig _ _ (stays_shut a recent) b = absurd (both_ways (settled p e) (recent q.up).1 q.calm)
-  begins sig _ _ (recovers a c d) b = tt
-  begins sig _ _ (gives_up a) b = omega arith
-  begins sig _ _ (tests_shutdown long) b = absurd (untested long)
-  begins sig _ _ (tests_on short) b = (omega (arith, s.later, b.entered_by), omega (arith, s.later, b.entered_by))
-  begins sig _ _ tested b = omega arith
+  pub begins : (r : ℕ) (sig : Signal) (m n : Mode) → Moves (seen p h e entered test) m n → time e ≡ r → ByMode p m h sig now entered test → Leads r n (time e) (cond (is n m) entered (time e))
+  begins r sig _ _ stays_dark here b = absurd b
+  begins r sig _ _ (waits a c) here b = omega arith
+  begins r sig _ _ (resets a c d) here b = tt
+  begins r sig _ _ (tests other long) here b = absurd (untested long)
+  begins r sig _ _ (runs a c) here b = tt
+  begins r sig _ _ (shuts a c o) here b = absurd (in_limits o)
+  begins r sig _ _ (stays_shut a recent) here b = absurd (let loose = (recent q.up).1 in cc)
+  begins r sig _ _ (recovers a c d) here b = tt
+  begins r sig _ _ (gives_up a) here b = omega arith
+  begins r sig _ _ (tests_on short) here b = grind arith
+  begins r sig _ _ tested here b = omega arith
 
   -- a further quiet step of it, with reset down since r or before
   pub goes_on : (r : ℕ) (m n : Mode) → Moves (seen p h e entered test) m n → time e ≤ r + button_time reset_down e h → Leads r m now entered → Leads r n (time e) (cond (is n m) entered (time e))
   goes_on r _ _ stays_dark held l = absurd l
   goes_on r _ _ (waits a long) held l = omega (arith, not_long long)
   goes_on r _ _ (resets a c d) held l = tt
-  goes_on r _ _ (tests_standby long) held l = absurd (untested long)
+  goes_on r _ _ (tests other long) held l = absurd (untested long)
   goes_on r _ _ (runs a c) held l = tt
   goes_on r _ _ (shuts a c o) held l = absurd (in_limits o)
-  goes_on r _ _ (tests_operating long) held l = absurd (untested long)
   goes_on r _ _ (stays_shut a c) held l = absurd l
   goes_on r _ _ (recovers a c d) held l = tt
   goes_on r _ _ (gives_up a) held l = absurd l
-  goes_on r _ _ (tests_shutdown long) held l = absurd (untested long)
-  goes_on r _ _ (tests_on short) held l = (l.0, omega (arith, s.later, l.0))
-  goes_on r _ _ tested held l = omega (arith, s.soon, l.0, l.1)
+  goes_on r _ _ (tests_on short) held l = grind arith
+  goes_on r _ _ tested held l = grind arith
 
-  -- at a quiet step after it the mode is operating
-  pub arrives : (r : ℕ) (m n : Mode) → Moves (seen p h e entered test) m n → r + 14500 ≤ now → Leads r m now entered → n ≡ Operating
-  arrives r _ _ stays_dark held l = absurd l
-  arrives r _ _ (waits a c) held l = absurd (omega arith)
-  arrives r _ _ (resets a c d) held l = refl
-  arrives r _ _ (tests_standby long) held l = absurd (untested long)
-  arrives r _ _ (runs a c) held l = refl
-  arrives r _ _ (shuts a c o) held l = absurd (in_limits o)
-  arrives r _ _ (tests_operating long) held l = absurd (untested long)
-  arrives r _ _ (stays_shut a c) held l = absurd l
-  arrives r _ _ (recovers a c d) held l = refl
-  arrives r _ _ (gives_up a) held l = absurd l
-  arrives r _ _ (tests_shutdown long) held l = absurd (untested long)
-  arrives r _ _ (tests_on short) held l = absurd (omega (arith, l.0, l.1))
-  arrives r _ _ tested held l = absurd (omega (arith, l.0, l.1))
+  -- 14,500 ms after r it is operating, and a quiet step keeps it so
+  led : (r : ℕ) (m : Mode) → r + 14500 ≤ now → Leads r m now entered → m ≡ Operating
+  led r Dark long l = absurd l
+  led r Standby long l = absurd (omega arith)
+  led r Operating long l = refl
+  led r Shutdown long l = absurd l
+  led r Test long l = absurd (omega (arith, l.0, l.1))
+
+  keeps_on : next_mode Operating (seen p h e entered test) ≡ Operating
+  keeps_on = grind (arith, nat_tests, untested, in_limits)
+
+  pub arrives : (r : ℕ) (m : Mode) → r + 14500 ≤ now → Leads r m now entered → next_mode m (seen p h e entered test) ≡ Operating
+  arrives r m long l = rw (led r m long l) keeps_on

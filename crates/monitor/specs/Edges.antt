@@ -1,5 +1,5 @@
 -- The edges of the rules, one row each: on both sides of a limit, the definitions give these values.
-use Rattle.std.specs.Prelude.{ℕ, Bool, true, false, not, ◌&&◌, List, [], ◌∷◌, ◌==◌, from_bits}
+use Rattle.std.specs.Prelude.{Ok, Err, ℕ, Bool, true, false, not, ◌&&◌, List, [], ◌∷◌, ◌==◌, from_bits}
 use Rattle.std.specs.Float.{binary32}
 use Rattle.control.specs.Modes.{is}
 use Rattle.control.specs.Plate.{out_of_limits, past_mark, settled, standard}
@@ -13,16 +13,16 @@ use Rattle.control.specs.declared.state.State.{State}
 use Rattle.gauges.specs.Causes.{cause_number}
 use Rattle.gauges.specs.Cell.{cell_reading}
 use Rattle.gauges.specs.EchoWord.{echo_reading}
-use Rattle.gauges.specs.declared.reading.Reading.{Reading}
-use Rattle.gauges.specs.declared.reading.Reading.TheVariants.{Level, Faulty}
+use Rattle.gauges.specs.Model.{Reading}
+use Rattle.monitor.specs.Witnesses.{at}
 
 abbrev reads : Reading → ℕ → Bool
-reads (Level units) n = units == n
-reads (Faulty f) n = false
+reads (Ok units) n = units == n
+reads (Err f) n = false
 
 abbrev fault_is : Reading → ℕ → Bool
-fault_is (Level units) n = false
-fault_is (Faulty f) n = cause_number f.cause == n
+fault_is (Ok units) n = false
+fault_is (Err f) n = cause_number f.cause == n
 
 abbrev out : Reading → Bool
 out = out_of_limits standard
@@ -51,10 +51,7 @@ waiting = record {
 }
 
 abbrev held_until : ℕ → State
-held_until t =
-    next_state standard waiting
-    record { time = t; a = 128; b = 0; power = true; reset = true; self_test = false; memory_failed = false; clock_failed = false }
-    (cell_reading 128)
+held_until t = next_state standard waiting (at 128 t true) (cell_reading 128)
 
 abbrev pub edges : List Bool
 edges =
@@ -77,7 +74,3 @@ edges =
     -- in standby, reset time 3,000 stays; 3,001 leads to operating, the signal still shutdown
     ∷ (is (held_until 4000).mode Standby && (is (held_until 4001).mode Operating && not (operate (held_until 4001).signal)))
     ∷ []
-
-abbrev pub all_hold : List Bool → Bool
-all_hold [] = true
-all_hold (row ∷ rows) = row && all_hold rows

@@ -1,8 +1,8 @@
 -- Runs of calls on a monitor, and the history that they leave: the accepted steps, each with its reading.
-use Rattle.std.specs.Prelude.{ℕ, cond, List, [], ◌∷◌, Some, None, Option, nat_lt}
+use Rattle.std.specs.Prelude.{ℕ, cond, List, [], ◌∷◌, Some, None, Option, filter_map, nat_lt}
 use Rattle.base.specs.Limits.{time_limit}
 use Rattle.gauges.specs.Model as gauge
-use Rattle.gauges.specs.declared.reading.Reading.{Reading}
+use Rattle.gauges.specs.Model.{Reading}
 use Rattle.records.specs.Record.{read_at}
 use Rattle.records.specs.declared.step.Step.{Step}
 use Rattle.std.specs.Result.{result_ok}
@@ -32,14 +32,9 @@ brings (step s) = cond (nat_lt time_limit s.time) None (Some s)
 brings (feed bytes place) = result_ok (read_at bytes place)
 brings (readout out) = None
 
-abbrev pub with_step : Option Step → List Step → List Step
-with_step None ss = ss
-with_step (Some s) ss = s ∷ ss
-
 -- the accepted steps of a list of calls, the newest first
 abbrev pub accepted_steps : List Call → List Step
-accepted_steps [] = []
-accepted_steps (c ∷ cs) = with_step (brings c) (accepted_steps cs)
+accepted_steps = filter_map brings
 
 -- the gauge after these steps: it took the words of those with power
 abbrev pub gauge_at : {G : Type 0} → gauge.Model G → G → List Step → G

@@ -11,7 +11,7 @@ use Rattle.monitor.specs.Promises.{LongReset}
 use Rattle.monitor.specs.Words.{amiss, lasted}
 
 -- a power-on step with that word, at that time, with reset down or up
-abbrev at : ℕ → ℕ → Bool → Step
+abbrev pub at : ℕ → ℕ → Bool → Step
 at word t reset = record {
   time = t;
   a = word;

@@ -1,11 +1,9 @@
 -- The words of the promises. Each is said of an accepted step e and of the accepted steps h before it, the
 -- newest first.
-use Rattle.std.specs.Prelude.{ℕ, ◌+◌, ◌-◌, Bool, true, false, cond, not, ◌&&◌, ◌||◌, leb, List, [], ◌∷◌, nat_le, nat_lt}
+use Rattle.std.specs.Prelude.{ℕ, ◌+◌, ◌-◌, Bool, false, cond, not, ◌&&◌, ◌||◌, List, [], ◌∷◌, is_err, nat_le, nat_lt}
 use Rattle.control.specs.Plate.{past_mark, out_of_limits}
 use Rattle.control.specs.Plate as plate
 use Rattle.control.specs.declared.plate.Plate.{Plate}
-use Rattle.gauges.specs.declared.reading.Reading.{Reading}
-use Rattle.gauges.specs.declared.reading.Reading.TheVariants.{Level, Faulty}
 use Rattle.monitor.specs.History.{Event}
 
 -- the step's time; power is on; a button is down with power on
@@ -22,12 +20,8 @@ abbrev pub test_down : Event → Bool
 test_down e = on e && e.step.self_test
 
 -- what the step's reading is; a step with power off has none
-abbrev pub is_fault : Reading → Bool
-is_fault (Level units) = false
-is_fault (Faulty f) = true
-
 abbrev pub faulty : Event → Bool
-faulty e = on e && is_fault e.reading
+faulty e = on e && is_err e.reading
 
 abbrev pub past : Plate → Event → Bool
 past p e = on e && past_mark p e.reading
@@ -122,7 +116,7 @@ amiss p e h = not (on e) || (faulty e || out p e)
 
 -- From some step that came d ms or more before t, it and all since are such.
 abbrev pub since : (Event → List Event → Bool) → ℕ → ℕ → List Event → Bool
-since such d t = lately such (λ e h. leb (time e + d) t)
+since such d t = lately such (λ e h. nat_le (time e + d) t)
 
 -- From one step to the newest, d ms or more later, all are such.
 abbrev pub lasted : (Event → List Event → Bool) → ℕ → List Event → Bool

@@ -1,6 +1,7 @@
 // Theorems about the definitions. Each stands on a contract, so that the gate asks for its proof.
 ghost use Rattle.std.specs.Prelude.{◌≡◌, true};
-ghost use Rattle.monitor.specs.Edges.{all_hold, edges};
+ghost use Rattle.std.specs.List.{list_all};
+ghost use Rattle.monitor.specs.Edges.{edges};
 ghost use Rattle.monitor.specs.Meanings.{BeganMeans, LatelyMeans};
 ghost use Rattle.monitor.specs.Witnesses.{Witnessed};
 
@@ -17,5 +18,5 @@ pub fn promises_are_not_empty()
 
 // The definitions give every row of the table of edges.
 pub fn edges_hold()
-    ensures { all_hold edges ≡ true }
+    ensures { list_all (λ row. row) edges ≡ true }
 {}

@@ -9,7 +9,7 @@ use gauges::Gauge;
 use switches::Switch;
 
 impl<G: Gauge, S: Switch> Monitor<G, S> {
-    // Writes the monitor's line at the front of `out` and answers its length. 64 bytes always suffice.
+    // Writes the monitor's line at the front of `out` and answers its length. `LINE_LEN` bytes always suffice.
     pub fn readout(&self, out: &mut [u8]) -> Result<usize, Refusal>
         ensures wrote { Wrote (line_of S.Switch.model self.now) out.old result out.new }
         ensures suffices { 64 ≤ length out.old → is_ok result ≡ true }

@@ -11,24 +11,17 @@ use switches::Switch;
 impl<G: Gauge, S: Switch> Monitor<G, S> {
     // A dark monitor, its switch opened. Gauge and switch may come in any state.
     // It keeps the three promises over every run of calls.
-    pub fn set_up(gauge: G, switch: S, plate: Plate) -> Monitor<G, S>
+    pub fn set_up(gauge: G, mut switch: S, plate: Plate) -> Monitor<G, S>
         ensures value { result ≡ set_up S.Switch.model gauge switch plate }
         ensures promises { Promises G.Gauge.model S.Switch.model plate gauge result }
     {
-        dark_monitor(gauge, switch, plate)
-    }
-}
-
-fn dark_monitor<G, S: Switch>(gauge: G, switch: S, plate: Plate) -> Monitor<G, S>
-    ensures { result ≡ set_up S.Switch.model gauge switch plate }
-{
-    let mut switch = switch;
-    switch.open();
-    Monitor {
-        gauge,
-        switch,
-        plate,
-        state: State::dark(0),
-        panel: Panel::dark(),
+        switch.open();
+        Monitor {
+            gauge,
+            switch,
+            plate,
+            state: State::dark(0),
+            panel: Panel::dark(),
+        }
     }
 }

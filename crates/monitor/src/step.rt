@@ -1,5 +1,5 @@
 ghost use Rattle.std.specs.Prelude.{◌≡◌};
-ghost use Rattle.monitor.specs.Calls.{accepted, step_answer, after_step, worked};
+ghost use Rattle.monitor.specs.Calls.{accepted, step_answer, after_step};
 
 use crate::monitor::Monitor;
 use base::{Refusal, TIME_LIMIT};
@@ -34,17 +34,11 @@ impl<G: Gauge, S: Switch> Monitor<G, S> {
             .next(&self.plate, self.state.mode, &state, reading);
         self.state = state;
         self.switch.tick(step.time);
-        work(&mut self.switch, step.power && state.drives());
-    }
-}
-
-// Closes the switch, held or not, or opens it.
-fn work<S: Switch>(switch: &mut S, close: bool)
-    ensures { switch.new ≡ worked S.Switch.model switch.old close }
-{
-    if close {
-        let _ = switch.close();
-    } else {
-        switch.open();
+        // A held switch stays as it is.
+        if step.power && state.drives() {
+            let _ = self.switch.close();
+        } else {
+            self.switch.open();
+        }
     }
 }
