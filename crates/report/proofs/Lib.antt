@@ -1,1 +1,3 @@
-pub mod Turns
+pub mod Batch
+pub mod Session
+pub mod Turn

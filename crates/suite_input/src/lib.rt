@@ -1,22 +1,35 @@
-// What the suite programs share: numbers in their inputs, and yes or no in their outputs.
+// What the suite programs share: their input, numbers in it, and yes or no in their outputs.
 #![tactic(auto)]
 
-ghost use Rattle.std.specs.Prelude.{◌≡◌};
+ghost use Rattle.std.specs.Prelude.{◌≡◌, IfOk, IfSome};
 ghost use Rattle.suite_input.specs.Words.{bit, word_at};
+
+use std::alloc::Global;
+use std::io::{self, Read};
+
+// All that a reader has left.
+pub fn read_all<R: Read + Drop>(heap: Global, reader: R) -> io::Result<Vec<u8>>
+    ensures { IfOk result (λ v. IfSome (R.remaining reader) (λ bytes. v.items ≡ bytes)) }
+{
+    let mut reader = reader;
+    let mut bytes = Vec::new(heap);
+    reader.read_to_end(&mut bytes)?;
+    Ok(bytes)
+}
 
 // The 32-bit number at `at`, high byte first; 0 past the end.
 pub fn word(bytes: &[u8], at: usize) -> u32
     ensures { result ≡ word_at bytes.now at }
 {
-    if at > bytes.len() || bytes.len() - at < 4 {
+    let Some(number) = bytes.get(at..).and_then(|rest| rest.first_chunk::<4>()) else {
         return 0;
-    }
-    u32::from_be_bytes([bytes[at], bytes[at + 1], bytes[at + 2], bytes[at + 3]])
+    };
+    u32::from_be_bytes(*number)
 }
 
 // 1 if true.
 pub fn digit(on: bool) -> u8
     ensures { result ≡ bit on }
 {
-    if on { 1 } else { 0 }
+    u8::from(on)
 }
