@@ -1,48 +1,50 @@
 -- The cell monitor's numbers tell all of it, and every monitor's numbers fit.
 use Rattle.std.proofs.Common.{◌≡◌, Bool, true, false, ◌&&◌, eqb, leb, Some, sym, refl, ap, ◌∙◌}
 use Rattle.std.proofs.lemmas.Bool.{and_parts, and_from}
-use Rattle.control.proofs.Plates.{same_plate}
 use Rattle.base.specs.Limits.{time_limit}
+use Rattle.std.specs.Bool.{then_some}
 use Rattle.control.specs.Modes.{is}
 use Rattle.control.specs.State.{drives}
 use Rattle.control.specs.Transition.{next_state}
 use Rattle.control.specs.declared.mode.Mode.TheVariants.{Dark}
 use Rattle.control.specs.declared.plate.Plate.{Plate}
-use Rattle.gauges.specs.Cell.{cell, nothing_taken}
-use Rattle.monitor.specs.Calls.{accepted, gauge_after, set_up, worked}
+use Rattle.gauges.specs.Cell.{cell, last_took, nothing_taken}
+use Rattle.monitor.specs.Calls.{accepted, gauge_after, monitor_with, set_up, worked}
 use Rattle.records.specs.declared.step.Step.{Step}
 use Rattle.switches.specs.Direct.{contact_at, direct}
 use Rattle.switches.specs.declared.direct.DirectContact.{DirectContact}
-use Rattle.sukepina.proofs.Cores.{core_same, fits, flag_fits, flag_on, on_flag, panel_back, state_back}
+use Rattle.sukepina.proofs.Cores.{core_of, core_one, flag_one, flag_same}
 use Rattle.sukepina.proofs.Kept.{implies_true, panel_kept, powered, reading_kept, state_kept}
-use Rattle.sukepina.proofs.Missing.{number_back, number_fits, number_same}
-use Rattle.sukepina.specs.Cell.{CellMonitor, CellPlate, cell_fits, cell_numbers, cell_possible, cell_with}
-use Rattle.sukepina.specs.Core.{on, panel_of, state_of}
-use Rattle.sukepina.specs.Maybe.{number_if, there}
-use Rattle.sukepina.specs.Possible.{core_possible, implies, same, state_possible}
+use Rattle.sukepina.proofs.Missing.{missing_one, there_flag}
+use Rattle.sukepina.specs.Cell.{CellMonitor, cell_numbers, cell_possible}
+use Rattle.sukepina.specs.Core.{flag_of, numbers_of}
+use Rattle.sukepina.specs.Maybe.{or_0, there}
+use Rattle.sukepina.specs.declared.core_numbers.Core.{Core}
 use Rattle.sukepina.specs.declared.numbers.CellNumbers.{CellNumbers}
+use Rattle.sukepina.specs.Possible.{core_possible, implies, same, state_possible}
 
-pub cell_fits_of : (m : CellMonitor) → cell_fits (cell_numbers m) ≡ true
-cell_fits_of m = and_from _ _ (fits m.plate m.state m.panel) (and_from _ _ (number_fits m.gauge.word) (flag_fits m.switch.closed))
-
--- a monitor is what its numbers stand for
-pub cell_unique : (m : CellMonitor) (n : CellNumbers) (p : Plate) → cell_numbers m ≡ n → p.numbers ≡ n.core.plate → m ≡ cell_with n p
-cell_unique m n p e plate =
+-- monitors that have the same numbers are the same
+pub cell_one : (m m' : CellMonitor) → cell_numbers m ≡ cell_numbers m' → m ≡ m'
+cell_one m m' e =
+    let core = core_one (core_of m) (core_of m') (ap (λ n. n.core) e) in
     λ i. record {
-      gauge = record { word = (sym (number_back m.gauge.word) ∙ ap (λ k. number_if (on k.taken) k.word) e) i };
-      switch = record { closed = (sym (on_flag m.switch.closed) ∙ ap (λ k. on k.closed) e) i };
-      plate = same_plate m.plate p (ap (λ k. k.core.plate) e ∙ sym plate) i;
-      state = (sym (state_back m.plate m.state m.panel) ∙ ap (λ k. state_of k.core) e) i;
-      panel = (sym (panel_back m.plate m.state m.panel) ∙ ap (λ k. panel_of k.core) e) i;
+      gauge = record { word = missing_one m.gauge.word m'.gauge.word (ap (λ n. n.taken) e) (ap (λ n. n.word) e) i };
+      switch = record { closed = flag_one m.switch.closed m'.switch.closed (ap (λ n. n.closed) e) i };
+      plate = (core i).plate;
+      state = (core i).state;
+      panel = (core i).panel;
     }
 
--- numbers that fit are those of what they stand for
-pub cell_same : (n : CellNumbers) (p : Plate) → cell_fits n ≡ true → p.numbers ≡ n.core.plate → cell_numbers (cell_with n p) ≡ n
-cell_same n p e plate =
-    let p1 = and_parts _ _ e in
-    let p2 = and_parts _ _ p1.1 in
-    let word = number_same n.taken n.word p2.0 in
-    λ i. record { core = core_same n.core p p1.0 plate i; taken = word.0 i; word = word.1 i; closed = flag_on n.closed p2.1 i }
+-- the numbers of a monitor, each part of which stands for one of n
+pub cell_made : (n : CellNumbers) (x : Core) (taken closed : Bool) → numbers_of x ≡ n.core → flag_of n.taken ≡ Some taken
+    → or_0 (then_some taken n.word) ≡ n.word → flag_of n.closed ≡ Some closed
+    → cell_numbers (monitor_with (last_took (then_some taken n.word)) (contact_at closed) x.plate x.state x.panel) ≡ n
+cell_made n x taken closed core is word contact = λ i. record {
+  core = core i;
+  taken = (there_flag taken n.word ∙ flag_same n.taken taken is) i;
+  word = word i;
+  closed = flag_same n.closed closed contact i;
+}
 
 contact_kept : (sw : DirectContact) (close : Bool) → same (worked direct sw close).closed close ≡ true
 contact_kept sw true = refl
@@ -65,15 +67,3 @@ cell_kept m s t e =
 
 pub cell_dark : (p : Plate) → cell_possible (set_up direct nothing_taken (contact_at false) p) ≡ true
 cell_dark p = refl
-
--- a monitor's numbers tell all of it
-pub cell_one : (m m' : CellMonitor) → cell_possible m ≡ true → cell_possible m' ≡ true → cell_numbers m ≡ cell_numbers m' → m ≡ m'
-cell_one m m' _ _ e = cell_unique m _ m.plate refl refl ∙ ap (λ n. cell_with n m.plate) e ∙ sym (cell_unique m' _ m.plate refl (ap (λ n. n.core.plate) e))
-
--- a monitor made from its numbers has these numbers; if it cannot be, no monitor that can has them
-module _ (n : CellNumbers) (p : Plate) (m : CellMonitor) (new : CellPlate n (Some p)) (stands : m ≡ cell_with n p) where
-  pub cell_restored : cell_numbers m ≡ n
-  cell_restored = ap cell_numbers stands ∙ cell_same n p new.1 new.0
-
-  pub cell_none : cell_possible m ≡ false → (k : CellMonitor) → cell_numbers k ≡ n → cell_possible k ≡ false
-  cell_none cannot k e = ap cell_possible (cell_unique k n p e new.0 ∙ sym stands) ∙ cannot

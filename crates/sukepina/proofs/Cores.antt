@@ -1,7 +1,8 @@
 -- Plate, state and panel as numbers and back: each of the two undoes the other.
-use Rattle.std.proofs.Common.{◌≡◌, ℕ, Bool, true, false, leb, refl, arith}
-use Rattle.std.proofs.lemmas.Bool.{and_parts, and_from}
-use Rattle.std.proofs.lemmas.Bool.Decides.{nat_tests}
+use Rattle.std.proofs.Common.{◌≡◌, ℕ, Bool, true, false, eqb, Some, None, Option, sym, refl, ap, ◌∙◌, subst}
+use Rattle.std.proofs.lemmas.Bool.{cond_both, eqb-true, false≢true}
+use Rattle.std.specs.Prelude.{is_some, unwrap_or}
+use Rattle.control.proofs.Plates.{same_plate}
 use Rattle.control.specs.State.{operate, watched}
 use Rattle.control.specs.declared.mode.FailureMode.{FailureMode}
 use Rattle.control.specs.declared.mode.FailureMode.TheVariants.{Allok, Badlevdev, Hardfail}
@@ -11,121 +12,152 @@ use Rattle.control.specs.declared.mode.Signal.{Signal}
 use Rattle.control.specs.declared.mode.Signal.TheVariants as signal
 use Rattle.control.specs.declared.mode.Watchdog.{Watchdog}
 use Rattle.control.specs.declared.mode.Watchdog.TheVariants as watchdog
-use Rattle.control.specs.declared.plate.Plate.{Plate}
-use Rattle.control.specs.declared.state.State.{State}
-use Rattle.display.specs.declared.panel.Panel.{Panel}
-use Rattle.sukepina.specs.Core.{core_fits, core_numbers, failure_number, failure_of, flag, is_flag, mode_number, mode_of, on, panel_of, signal_of, state_of, watchdog_of}
+use Rattle.monitor.specs.declared.monitor.Monitor.{Monitor}
+use Rattle.sukepina.specs.Core.{failure_number, failure_of, flag, flag_of, mode_number, mode_of, numbers_of, signal_of, watchdog_of}
+use Rattle.sukepina.specs.declared.core_numbers.Core.{Core}
 use Rattle.sukepina.specs.declared.numbers.CoreNumbers.{CoreNumbers}
 
-pub flag_fits : (b : Bool) → is_flag (flag b) ≡ true
-flag_fits true = refl
-flag_fits false = refl
+-- ---- what is kept as a number, if its number leads back to it
 
-mode_fits : (m : Mode) → leb (mode_number m) 4 ≡ true
-mode_fits Dark = refl
-mode_fits Standby = refl
-mode_fits Operating = refl
-mode_fits Shutdown = refl
-mode_fits Test = refl
+module _ {A : Type 0} (number : A → ℕ) (of : ℕ → Option A) (back : (x : A) → of (number x) ≡ Some x) where
+  pub none_has : (n : ℕ) → of n ≡ None → (x : A) → number x ≡ n → ⊥
+  none_has n none x e = false≢true (ap is_some (sym none ∙ sym (ap of e) ∙ back x))
 
-failure_fits : (f : FailureMode) → leb (failure_number f) 2 ≡ true
-failure_fits Allok = refl
-failure_fits Badlevdev = refl
-failure_fits Hardfail = refl
+  pub one_has : (x y : A) → number x ≡ number y → x ≡ y
+  one_has x y e = ap (λ o. unwrap_or o x) (sym (back x) ∙ ap of e ∙ back y)
 
-pub fits : (p : Plate) (st : State) (d : Panel) → core_fits (core_numbers p st d) ≡ true
-fits p st d =
-    and_from _ _ (mode_fits st.mode)
-    (and_from _ _ (failure_fits st.failure)
-    (and_from _ _ (flag_fits (operate st.signal))
-    (and_from _ _ (flag_fits (watched st.watchdog))
-    (and_from _ _ (flag_fits st.reset.down)
-    (and_from _ _ (flag_fits st.test.down)
-    (and_from _ _ (flag_fits d.warnings.high)
-    (and_from _ _ (flag_fits d.warnings.low)
-    (flag_fits d.warnings.alarm))))))))
+-- what a number leads to has that number
+abbrev IsBack : {A : Type 0} → (A → ℕ) → ℕ → Option A → Type 0
+IsBack number n (Some x) = number x ≡ n
+IsBack number n None = Unit {0}
 
-pub on_flag : (b : Bool) → on (flag b) ≡ b
-on_flag true = refl
-on_flag false = refl
+-- ---- yes or no
 
-mode_back : (m : Mode) → mode_of (mode_number m) ≡ m
+pub flag_back : (b : Bool) → flag_of (flag b) ≡ Some b
+flag_back true = refl
+flag_back false = refl
+
+pub flag_same : (n : ℕ) (b : Bool) → flag_of n ≡ Some b → flag b ≡ n
+flag_same n b e =
+    subst (IsBack flag n) e
+    (cond_both (eqb n 0) _ _ (IsBack flag n) (λ h. sym (eqb-true n 0 h)) (λ _.
+    cond_both (eqb n 1) _ _ (IsBack flag n) (λ h. sym (eqb-true n 1 h)) (λ _. tt)))
+
+pub flag_one : (b c : Bool) → flag b ≡ flag c → b ≡ c
+flag_one = one_has flag flag_of flag_back
+
+-- ---- modes
+
+pub mode_back : (m : Mode) → mode_of (mode_number m) ≡ Some m
 mode_back Dark = refl
 mode_back Standby = refl
 mode_back Operating = refl
 mode_back Shutdown = refl
 mode_back Test = refl
 
-failure_back : (f : FailureMode) → failure_of (failure_number f) ≡ f
+pub mode_same : (n : ℕ) (m : Mode) → mode_of n ≡ Some m → mode_number m ≡ n
+mode_same n m e =
+    subst (IsBack mode_number n) e
+    (cond_both (eqb n 0) _ _ (IsBack mode_number n) (λ h. sym (eqb-true n 0 h)) (λ _.
+    cond_both (eqb n 1) _ _ (IsBack mode_number n) (λ h. sym (eqb-true n 1 h)) (λ _.
+    cond_both (eqb n 2) _ _ (IsBack mode_number n) (λ h. sym (eqb-true n 2 h)) (λ _.
+    cond_both (eqb n 3) _ _ (IsBack mode_number n) (λ h. sym (eqb-true n 3 h)) (λ _.
+    cond_both (eqb n 4) _ _ (IsBack mode_number n) (λ h. sym (eqb-true n 4 h)) (λ _. tt))))))
+
+pub failure_back : (f : FailureMode) → failure_of (failure_number f) ≡ Some f
 failure_back Allok = refl
 failure_back Badlevdev = refl
 failure_back Hardfail = refl
 
-signal_back : (s : Signal) → signal_of (flag (operate s)) ≡ s
+pub failure_same : (n : ℕ) (f : FailureMode) → failure_of n ≡ Some f → failure_number f ≡ n
+failure_same n f e =
+    subst (IsBack failure_number n) e
+    (cond_both (eqb n 0) _ _ (IsBack failure_number n) (λ h. sym (eqb-true n 0 h)) (λ _.
+    cond_both (eqb n 1) _ _ (IsBack failure_number n) (λ h. sym (eqb-true n 1 h)) (λ _.
+    cond_both (eqb n 2) _ _ (IsBack failure_number n) (λ h. sym (eqb-true n 2 h)) (λ _. tt))))
+
+abbrev pub signal_number : Signal → ℕ
+signal_number s = flag (operate s)
+
+pub signal_back : (s : Signal) → signal_of (signal_number s) ≡ Some s
 signal_back signal.Shutdown = refl
 signal_back signal.Operate = refl
 
-watchdog_back : (w : Watchdog) → watchdog_of (flag (watched w)) ≡ w
+pub signal_same : (n : ℕ) (s : Signal) → signal_of n ≡ Some s → signal_number s ≡ n
+signal_same n s e =
+    subst (IsBack signal_number n) e
+    (cond_both (eqb n 0) _ _ (IsBack signal_number n) (λ h. sym (eqb-true n 0 h)) (λ _.
+    cond_both (eqb n 1) _ _ (IsBack signal_number n) (λ h. sym (eqb-true n 1 h)) (λ _. tt)))
+
+abbrev pub watchdog_number : Watchdog → ℕ
+watchdog_number w = flag (watched w)
+
+pub watchdog_back : (w : Watchdog) → watchdog_of (watchdog_number w) ≡ Some w
 watchdog_back watchdog.Shut = refl
 watchdog_back watchdog.Operate = refl
 
-pub state_back : (p : Plate) (st : State) (d : Panel) → state_of (core_numbers p st d) ≡ st
-state_back p st d = λ i. record {
-  mode = mode_back st.mode i;
-  failure = failure_back st.failure i;
-  signal = signal_back st.signal i;
-  watchdog = watchdog_back st.watchdog i;
-  time = st.time;
-  entered = st.entered;
-  reset = record { down = on_flag st.reset.down i; since = st.reset.since };
-  test = record { down = on_flag st.test.down i; since = st.test.since };
+pub watchdog_same : (n : ℕ) (w : Watchdog) → watchdog_of n ≡ Some w → watchdog_number w ≡ n
+watchdog_same n w e =
+    subst (IsBack watchdog_number n) e
+    (cond_both (eqb n 0) _ _ (IsBack watchdog_number n) (λ h. sym (eqb-true n 0 h)) (λ _.
+    cond_both (eqb n 1) _ _ (IsBack watchdog_number n) (λ h. sym (eqb-true n 1 h)) (λ _. tt)))
+
+-- ---- plate, state and panel
+
+module _ (x y : Core) (e : numbers_of x ≡ numbers_of y) where
+  state_one : x.state ≡ y.state
+  state_one = λ i. record {
+    mode = one_has mode_number mode_of mode_back x.state.mode y.state.mode (ap (λ n. n.mode) e) i;
+    failure = one_has failure_number failure_of failure_back x.state.failure y.state.failure (ap (λ n. n.failure) e) i;
+    signal = one_has signal_number signal_of signal_back x.state.signal y.state.signal (ap (λ n. n.signal) e) i;
+    watchdog = one_has watchdog_number watchdog_of watchdog_back x.state.watchdog y.state.watchdog (ap (λ n. n.watchdog) e) i;
+    time = (e i).time;
+    entered = (e i).entered;
+    reset = record { down = flag_one x.state.reset.down y.state.reset.down (ap (λ n. n.reset_down) e) i; since = (e i).reset_since };
+    test = record { down = flag_one x.state.test.down y.state.test.down (ap (λ n. n.test_down) e) i; since = (e i).test_since };
+  }
+
+  panel_one : x.panel ≡ y.panel
+  panel_one = λ i. record {
+    warnings = record {
+      high = flag_one x.panel.warnings.high y.panel.warnings.high (ap (λ n. n.high) e) i;
+      low = flag_one x.panel.warnings.low y.panel.warnings.low (ap (λ n. n.low) e) i;
+      alarm = flag_one x.panel.warnings.alarm y.panel.warnings.alarm (ap (λ n. n.alarm) e) i;
+    };
+    figure = (e i).figure;
+  }
+
+  -- parts that have the same numbers are the same
+  pub core_one : x ≡ y
+  core_one = λ i. record { plate = same_plate x.plate y.plate (ap (λ n. n.plate) e) i; state = state_one i; panel = panel_one i }
+
+abbrev pub core_of : {G S : Type 0} → Monitor G S → Core
+core_of m = record { plate = m.plate; state = m.state; panel = m.panel }
+
+-- the numbers of parts, each of which stands for one of n
+pub core_same : (n : CoreNumbers) (x : Core) → x.plate.numbers ≡ n.plate
+    → mode_of n.mode ≡ Some x.state.mode → failure_of n.failure ≡ Some x.state.failure
+    → signal_of n.signal ≡ Some x.state.signal → watchdog_of n.watchdog ≡ Some x.state.watchdog
+    → x.state.time ≡ n.time → x.state.entered ≡ n.entered
+    → flag_of n.reset_down ≡ Some x.state.reset.down → x.state.reset.since ≡ n.reset_since
+    → flag_of n.test_down ≡ Some x.state.test.down → x.state.test.since ≡ n.test_since
+    → flag_of n.high ≡ Some x.panel.warnings.high → flag_of n.low ≡ Some x.panel.warnings.low
+    → flag_of n.alarm ≡ Some x.panel.warnings.alarm → x.panel.figure ≡ n.figure
+    → numbers_of x ≡ n
+core_same n x plate mode failure signal watchdog time entered reset reset_since test test_since high low alarm figure = λ i. record {
+  time = time i;
+  entered = entered i;
+  reset_since = reset_since i;
+  test_since = test_since i;
+  plate = plate i;
+  mode = mode_same n.mode x.state.mode mode i;
+  failure = failure_same n.failure x.state.failure failure i;
+  signal = signal_same n.signal x.state.signal signal i;
+  watchdog = watchdog_same n.watchdog x.state.watchdog watchdog i;
+  reset_down = flag_same n.reset_down x.state.reset.down reset i;
+  test_down = flag_same n.test_down x.state.test.down test i;
+  high = flag_same n.high x.panel.warnings.high high i;
+  low = flag_same n.low x.panel.warnings.low low i;
+  alarm = flag_same n.alarm x.panel.warnings.alarm alarm i;
+  figure = figure i;
 }
-
-pub panel_back : (p : Plate) (st : State) (d : Panel) → panel_of (core_numbers p st d) ≡ d
-panel_back p st d = λ i. record {
-  warnings = record { high = on_flag d.warnings.high i; low = on_flag d.warnings.low i; alarm = on_flag d.warnings.alarm i };
-  figure = d.figure;
-}
-
-pub flag_on : (n : ℕ) → is_flag n ≡ true → flag (on n) ≡ n
-flag_on n e = grind (arith, nat_tests)
-
-mode_same : (n : ℕ) → leb n 4 ≡ true → mode_number (mode_of n) ≡ n
-mode_same n e = grind (arith, nat_tests)
-
-failure_same : (n : ℕ) → leb n 2 ≡ true → failure_number (failure_of n) ≡ n
-failure_same n e = grind (arith, nat_tests)
-
-signal_same : (n : ℕ) → is_flag n ≡ true → flag (operate (signal_of n)) ≡ n
-signal_same n e = grind (arith, nat_tests)
-
-watchdog_same : (n : ℕ) → is_flag n ≡ true → flag (watched (watchdog_of n)) ≡ n
-watchdog_same n e = grind (arith, nat_tests)
-
-pub core_same : (n : CoreNumbers) (p : Plate) → core_fits n ≡ true → p.numbers ≡ n.plate → core_numbers p (state_of n) (panel_of n) ≡ n
-core_same n p e plate =
-    let p1 = and_parts _ _ e in
-    let p2 = and_parts _ _ p1.1 in
-    let p3 = and_parts _ _ p2.1 in
-    let p4 = and_parts _ _ p3.1 in
-    let p5 = and_parts _ _ p4.1 in
-    let p6 = and_parts _ _ p5.1 in
-    let p7 = and_parts _ _ p6.1 in
-    let p8 = and_parts _ _ p7.1 in
-    λ i. record {
-      time = n.time;
-      entered = n.entered;
-      reset_since = n.reset_since;
-      test_since = n.test_since;
-      plate = plate i;
-      mode = mode_same n.mode p1.0 i;
-      failure = failure_same n.failure p2.0 i;
-      signal = signal_same n.signal p3.0 i;
-      watchdog = watchdog_same n.watchdog p4.0 i;
-      reset_down = flag_on n.reset_down p5.0 i;
-      test_down = flag_on n.test_down p6.0 i;
-      high = flag_on n.high p7.0 i;
-      low = flag_on n.low p8.0 i;
-      alarm = flag_on n.alarm p8.1 i;
-      figure = n.figure;
-    }

@@ -1,13 +1,13 @@
 -- The echo monitor's numbers tell all of what it can be, and calls keep it so.
-use Rattle.std.proofs.Common.{◌≡◌, ℕ, ◌≤◌, Bool, true, false, ◌&&◌, eqb, ltb, leb, Some, None, Option, sym, refl, ap, ◌∙◌, inl, inr, arith}
+use Rattle.std.proofs.Common.{◌≡◌, ℕ, ◌<◌, ◌≤◌, Bool, true, false, ◌&&◌, eqb, ltb, leb, Some, None, Option, sym, refl, ap, ◌∙◌, inl, inr, arith}
 use mathlib.Core.Bool.{Bool-set}
 use mathlib.Core.HLevel.{is_prop→PathP}
 use native.Mathlib.Bridge.{le_prop}
 use lib.Ieee.{Float, binary32, of_bits}
 use Rattle.std.proofs.lemmas.Bool.{and_parts, and_from, cases_Bool, cond_both, eqb-true, false≢true}
 use Rattle.std.proofs.lemmas.Bool.Decides.{nat_tests}
+use Rattle.std.specs.Bool.{then_some}
 use Rattle.base.specs.Limits.{time_limit}
-use Rattle.control.proofs.Plates.{same_plate}
 use Rattle.control.specs.Modes.{is}
 use Rattle.control.specs.State.{dark, drives}
 use Rattle.control.specs.Transition.{next_state}
@@ -26,21 +26,21 @@ use Rattle.gauges.specs.declared.reading.Cause.{Cause}
 use Rattle.gauges.specs.declared.reading.Cause.TheVariants.{Scale, Lost, Reach, Apart, Nothing}
 use Rattle.gauges.specs.declared.reading.Reading.{Reading}
 use Rattle.gauges.specs.declared.reading.Reading.TheVariants.{Level, Faulty}
-use Rattle.monitor.specs.Calls.{accepted, gauge_after, set_up, worked}
+use Rattle.monitor.specs.Calls.{accepted, gauge_after, monitor_with, set_up, worked}
 use Rattle.records.specs.declared.step.Step.{Step}
 use Rattle.switches.specs.Drive.{drive, word_at}
 use Rattle.switches.specs.Model.{asked_to_close}
-use Rattle.switches.specs.Rest.{new_rest, opening_after, resting}
+use Rattle.switches.specs.Rest.{new_rest, opening_after, rest_with, resting}
 use Rattle.switches.specs.declared.rest_time.RestTime.{RestTime}
-use Rattle.sukepina.proofs.Cores.{core_same, fits, panel_back, state_back}
+use Rattle.sukepina.proofs.Cores.{core_of, core_one, flag_same}
 use Rattle.sukepina.proofs.Kept.{implies_true, panel_kept, powered, reading_kept, state_kept}
-use Rattle.sukepina.proofs.Missing.{number_back, number_fits, number_same}
-use Rattle.sukepina.specs.Core.{on, panel_of, state_of}
-use Rattle.sukepina.specs.Echo.{EchoMade, EchoMonitor, Resting, cause_read, echo_fits, echo_numbers, echo_possible, echo_read, echo_with, fault_number, gauge_possible, level_number, opening_possible, reading_fits, reading_of, rest_possible, switch_possible, word_fits, word_of}
-use Rattle.sukepina.specs.Maybe.{number_if}
-use Rattle.sukepina.specs.Possible.{core_possible, implies, state_possible}
-use Rattle.sukepina.specs.declared.echo.EchoParts.{EchoParts}
+use Rattle.sukepina.proofs.Missing.{missing_one, there_flag}
+use Rattle.sukepina.specs.Echo.{EchoMonitor, Resting, cause_read, echo_numbers, echo_possible, echo_read, fault_number, gauge_possible, level_number, opening_possible, reading_numbers, rest_possible, switch_possible, word_fits}
+use Rattle.sukepina.specs.declared.core_numbers.Core.{Core}
 use Rattle.sukepina.specs.declared.numbers.EchoNumbers.{EchoNumbers}
+use Rattle.sukepina.specs.Core.{flag_of, numbers_of}
+use Rattle.sukepina.specs.Maybe.{or_0}
+use Rattle.sukepina.specs.Possible.{core_possible, implies, state_possible}
 
 -- ---- gauges and rests that tell the same are the same: ghost fields add nothing
 
@@ -57,33 +57,41 @@ same_rest p q e = λ i. record { millis = e i; within = is_prop→PathP (λ j. e
 
 -- ---- readings and words as numbers, and back
 
-fault_back : (c : Cause) (h : ℕ) → cause_read c ≡ true → h ≡ 0 → reading_of (cause_number c) 0 ≡ Faulty (record { cause = c; height = h })
-fault_back Scale h e z = absurd (false≢true e)
-fault_back Lost h e z = λ i. Faulty (record { cause = Lost; height = sym z i })
-fault_back Reach h e z = λ i. Faulty (record { cause = Reach; height = sym z i })
-fault_back Apart h e z = absurd (false≢true e)
-fault_back Nothing h e z = λ i. Faulty (record { cause = Nothing; height = sym z i })
+no_cause : (c : Cause) → cause_read c ≡ true → cause_number c ≡ 0 → ⊥
+no_cause Scale r e = false≢true r
+no_cause Lost r e = false≢true (ap (eqb 0) e)
+no_cause Reach r e = false≢true (ap (eqb 0) e)
+no_cause Apart r e = false≢true r
+no_cause Nothing r e = false≢true (ap (eqb 0) e)
 
-cause_fits : (c : Cause) → cause_read c ≡ true → reading_fits (cause_number c) 0 ≡ true
-cause_fits Scale e = absurd (false≢true e)
-cause_fits Lost e = refl
-cause_fits Reach e = refl
-cause_fits Apart e = absurd (false≢true e)
-cause_fits Nothing e = refl
+-- what an echo gauge reads tells itself by its numbers
+cause_one : (c d : Cause) → cause_read c ≡ true → cause_read d ≡ true → cause_number c ≡ cause_number d → c ≡ d
+cause_one Lost Lost _ _ e = refl
+cause_one Reach Reach _ _ e = refl
+cause_one Nothing Nothing _ _ e = refl
+cause_one Lost Reach _ _ e = absurd (false≢true (ap (eqb 3) e))
+cause_one Lost Nothing _ _ e = absurd (false≢true (ap (eqb 5) e))
+cause_one Reach Lost _ _ e = absurd (false≢true (ap (eqb 2) e))
+cause_one Reach Nothing _ _ e = absurd (false≢true (ap (eqb 5) e))
+cause_one Nothing Lost _ _ e = absurd (false≢true (ap (eqb 2) e))
+cause_one Nothing Reach _ _ e = absurd (false≢true (ap (eqb 3) e))
+cause_one Scale d e _ _ = absurd (false≢true e)
+cause_one Apart d e _ _ = absurd (false≢true e)
+cause_one Lost Scale _ e _ = absurd (false≢true e)
+cause_one Lost Apart _ e _ = absurd (false≢true e)
+cause_one Reach Scale _ e _ = absurd (false≢true e)
+cause_one Reach Apart _ e _ = absurd (false≢true e)
+cause_one Nothing Scale _ e _ = absurd (false≢true e)
+cause_one Nothing Apart _ e _ = absurd (false≢true e)
 
-reading_back : (r : Reading) → echo_read r ≡ true → reading_of (fault_number r) (level_number r) ≡ r
-reading_back (Level u) e = refl
-reading_back (Faulty f) e = let parts = and_parts _ _ e in fault_back f.cause f.height parts.0 (eqb-true f.height 0 parts.1)
-
-reading_fits_of : (r : Reading) → echo_read r ≡ true → reading_fits (fault_number r) (level_number r) ≡ true
-reading_fits_of (Level u) e = refl
-reading_fits_of (Faulty f) e = cause_fits f.cause (and_parts _ _ e).0
-
-reading_same : (fault level : ℕ) → reading_fits fault level ≡ true → (fault_number (reading_of fault level) ≡ fault) × (level_number (reading_of fault level) ≡ level)
-reading_same fault level e = grind (arith, nat_tests)
-
-word_back : (w : ℕ) → word_fits w ≡ true → word_of w ≡ w
-word_back w e = grind (arith, nat_tests)
+reading_one : (r q : Reading) → echo_read r ≡ true → echo_read q ≡ true → fault_number r ≡ fault_number q → level_number r ≡ level_number q → r ≡ q
+reading_one (Level u) (Level v) _ _ _ e = ap Level e
+reading_one (Level u) (Faulty g) _ rq e _ = absurd (no_cause g.cause (and_parts _ _ rq).0 (sym e))
+reading_one (Faulty f) (Level v) rr _ e _ = absurd (no_cause f.cause (and_parts _ _ rr).0 e)
+reading_one (Faulty f) (Faulty g) rr rq e _ =
+    let p = and_parts (cause_read f.cause) _ rr in
+    let q = and_parts (cause_read g.cause) _ rq in
+    λ i. Faulty (record { cause = cause_one f.cause g.cause p.0 q.0 e i; height = (eqb-true f.height 0 p.1 ∙ sym (eqb-true g.height 0 q.1)) i })
 
 -- ---- numbers and monitors
 
@@ -97,64 +105,51 @@ module _ (m : EchoMonitor) (can : echo_possible m ≡ true) where
   switch_can : switch_possible m.switch m.state ≡ true
   switch_can = (and_parts (gauge_possible m.gauge.last m.state.mode) (switch_possible m.switch m.state) (and_parts (core_possible m.plate m.state m.panel m.gauge.last) _ can).1).1
 
-  read : echo_read m.gauge.last ≡ true
-  read = (and_parts (echo_read m.gauge.last) _ gauge_can).0
+  pub echo_reads : echo_read m.gauge.last ≡ true
+  echo_reads = (and_parts (echo_read m.gauge.last) _ gauge_can).0
 
   resting_can : rest_possible m.switch m.state.time ≡ true
   resting_can = (and_parts (rest_possible m.switch m.state.time) _ switch_can).0
 
-  wording : word_fits m.switch.below.word ≡ true
-  wording = (and_parts (opening_possible m.switch.opening m.switch.last) _ (and_parts (eqb m.switch.last m.state.time) _ resting_can).1).1
-
-  pub echo_fits_of : echo_fits (echo_numbers m) ≡ true
-  echo_fits_of =
-      and_from _ _ (fits m.plate m.state m.panel)
-      (and_from _ _ (number_fits m.switch.opening)
-      (and_from _ _ (reading_fits_of m.gauge.last read) wording))
-
-  -- a monitor that can be is what its numbers stand for
-  pub echo_unique : (n : EchoNumbers) (p : Plate) (g : Echo) (t : RestTime) → echo_numbers m ≡ n
-      → p.numbers ≡ n.core.plate → g.mount ≡ n.mount → g.last ≡ reading_of n.fault n.level → t.millis ≡ n.rest → m ≡ echo_with n p g t
-  echo_unique n p g t e plate mount last rest = λ i. record {
-    gauge = same_echo m.gauge g (ap (λ k. k.mount) e ∙ sym mount) (sym (reading_back m.gauge.last read) ∙ ap (λ k. reading_of k.fault k.level) e ∙ sym last) i;
-    switch = record {
-      below = record { word = (sym (word_back m.switch.below.word wording) ∙ ap (λ k. word_of k.drive) e) i };
-      rest = same_rest m.switch.rest t (ap (λ k. k.rest) e ∙ sym rest) i;
-      last = (e i).last_tick;
-      opening = (sym (number_back m.switch.opening) ∙ ap (λ k. number_if (on k.opened) k.opening) e) i;
-    };
-    plate = same_plate m.plate p (ap (λ k. k.core.plate) e ∙ sym plate) i;
-    state = (sym (state_back m.plate m.state m.panel) ∙ ap (λ k. state_of k.core) e) i;
-    panel = (sym (panel_back m.plate m.state m.panel) ∙ ap (λ k. panel_of k.core) e) i;
-  }
-
--- numbers that fit are those of what they stand for
-pub echo_same : (n : EchoNumbers) (p : Plate) (g : Echo) (t : RestTime) → echo_fits n ≡ true
-    → p.numbers ≡ n.core.plate → g.mount ≡ n.mount → g.last ≡ reading_of n.fault n.level → t.millis ≡ n.rest → echo_numbers (echo_with n p g t) ≡ n
-echo_same n p g t e plate mount last rest =
-    let p1 = and_parts _ _ e in
-    let p2 = and_parts _ _ p1.1 in
-    let p3 = and_parts _ _ p2.1 in
-    let opening = number_same n.opened n.opening p2.0 in
-    let reading = reading_same n.fault n.level p3.0 in
+-- monitors that read as an echo gauge does and have the same numbers are the same
+pub echo_one : (m m' : EchoMonitor) → echo_read m.gauge.last ≡ true → echo_read m'.gauge.last ≡ true → echo_numbers m ≡ echo_numbers m' → m ≡ m'
+echo_one m m' read read' e =
+    let core = core_one (core_of m) (core_of m') (ap (λ n. n.core) e) in
     λ i. record {
-      core = core_same n.core p p1.0 plate i;
-      rest = rest i;
-      last_tick = n.last_tick;
-      opening = opening.1 i;
-      opened = opening.0 i;
-      mount = mount i;
-      fault = (ap fault_number last ∙ reading.0) i;
-      level = (ap level_number last ∙ reading.1) i;
-      drive = word_back n.drive p3.1 i;
+      gauge = same_echo m.gauge m'.gauge (ap (λ n. n.mount) e) (reading_one m.gauge.last m'.gauge.last read read' (ap (λ n. n.fault) e) (ap (λ n. n.level) e)) i;
+      switch = record {
+        below = record { word = (e i).drive };
+        rest = same_rest m.switch.rest m'.switch.rest (ap (λ n. n.rest) e) i;
+        last = (e i).last_tick;
+        opening = missing_one m.switch.opening m'.switch.opening (ap (λ n. n.opened) e) (ap (λ n. n.opening) e) i;
+      };
+      plate = (core i).plate;
+      state = (core i).state;
+      panel = (core i).panel;
     }
 
-pub echo_one : (m m' : EchoMonitor) → echo_possible m ≡ true → echo_possible m' ≡ true → echo_numbers m ≡ echo_numbers m' → m ≡ m'
-echo_one m m' can can' e =
-    let n = echo_numbers m' in
-    let last : m'.gauge.last ≡ reading_of n.fault n.level = sym (reading_back m'.gauge.last (read m' can')) in
-    echo_unique m can n m'.plate m'.gauge m'.switch.rest e refl refl last refl
-    ∙ sym (echo_unique m' can' n m'.plate m'.gauge m'.switch.rest refl refl refl last refl)
+-- the numbers of a monitor, each part of which stands for one of n
+pub echo_made : (n : EchoNumbers) (x : Core) (g : Echo) (t : RestTime) (opened : Bool) → numbers_of x ≡ n.core
+    → g.mount ≡ n.mount → reading_numbers g.last ≡ (n.fault, n.level) → t.millis ≡ n.rest → flag_of n.opened ≡ Some opened
+    → or_0 (then_some opened n.opening) ≡ n.opening
+    → echo_numbers (monitor_with g (rest_with (word_at n.drive) t n.last_tick (then_some opened n.opening)) x.plate x.state x.panel) ≡ n
+echo_made n x g t opened core mount reading rest is opening = λ i. record {
+  core = core i;
+  rest = rest i;
+  last_tick = n.last_tick;
+  opening = opening i;
+  opened = (there_flag opened n.opening ∙ flag_same n.opened opened is) i;
+  mount = mount i;
+  fault = (reading i).0;
+  level = (reading i).1;
+  drive = n.drive;
+}
+
+-- a drive's word has 16 bits
+pub word_in_16 : (m : EchoMonitor) → echo_possible m ≡ true → m.switch.below.word < 65536
+word_in_16 m can =
+    let word = (and_parts (opening_possible m.switch.opening m.switch.last) _ (and_parts (eqb m.switch.last m.state.time) _ (resting_can m can)).1).1 in
+    grind (arith, nat_tests)
 
 -- ---- what a step keeps of the gauge
 
@@ -231,15 +226,3 @@ echo_kept m s t can =
 -- a new monitor
 pub echo_dark : (p : Plate) (g : Echo) (t : RestTime) → g.last ≡ fresh Nothing → echo_possible (set_up (resting drive) g (new_rest (word_at 0xFF00) t) p) ≡ true
 echo_dark p g t last = ap (λ r. core_possible p (dark 0) dark_panel r && (gauge_possible r Dark && true)) last
-
--- a monitor made from its numbers has these numbers; if it cannot be, no monitor that can has them
-module _ (n : EchoNumbers) (x : EchoParts) (m : EchoMonitor) (new : EchoMade n (Some x)) (stands : m ≡ echo_with n x.plate x.gauge x.rest) where
-  pub echo_restored : echo_numbers m ≡ n
-  echo_restored = ap echo_numbers stands ∙ echo_same n x.plate x.gauge x.rest new.0 new.1 new.2 new.3 new.4
-
-  pub echo_none : echo_possible m ≡ false → (k : EchoMonitor) → echo_numbers k ≡ n → echo_possible k ≡ false
-  echo_none cannot k e =
-      elim (cases_Bool (echo_possible k)) [
-        | inl can ↦ ap echo_possible (echo_unique k can n x.plate x.gauge x.rest e new.1 new.2 new.3 new.4 ∙ sym stands) ∙ cannot
-        | inr not_so ↦ not_so
-      ]

@@ -1,7 +1,21 @@
 -- A call served, and a call refused because no monitor can have the numbers.
-use Rattle.std.proofs.Common.{◌≡◌, Bool, true, false, sym, refl, ap, ◌∙◌}
-use Rattle.std.proofs.lemmas.Bool.{false≢true}
-use Rattle.sukepina.specs.Boundary.{Call}
+use Rattle.std.proofs.Common.{◌≡◌, Bool, true, false, Some, None, Option, sym, refl, ap, ◌∙◌, subst}
+use Rattle.std.proofs.lemmas.Bool.{false_from_ne_true, false≢true}
+use Rattle.std.specs.Bool.{then_some}
+use Rattle.sukepina.specs.Boundary.{Call, StandsFor}
+
+-- ---- what numbers stand for
+
+module _ {N M : Type 0} (numbers : M → N) (possible : M → Bool) (n : N) where
+  -- nothing, if part of it is missing
+  pub none_stands : ((m : M) → possible m ≡ true → numbers m ≡ n → ⊥) → (r : Option M) → r ≡ None → StandsFor numbers possible n r
+  none_stands without r none = subst (StandsFor numbers possible n) (sym none) (λ m e. false_from_ne_true (possible m) (λ can. without m can e))
+
+  -- nothing, if the one thing that has the numbers is not possible
+  pub none_possible : (m : M) → ((k : M) → possible k ≡ true → numbers k ≡ n → k ≡ m) → possible m ≡ false → StandsFor numbers possible n None
+  none_possible m only cannot = λ k e. false_from_ne_true (possible k) (λ can. false≢true (sym cannot ∙ ap possible (sym (only k can e)) ∙ can))
+
+-- ---- calls
 
 module _ {N M R : Type 0} (numbers : M → N) (possible : M → Bool) (unserved : R) (answer : M → R) (after : M → M) where
   pub no_monitor_call : (n : N) → ((m : M) → numbers m ≡ n → possible m ≡ false) → Call numbers possible unserved answer after n unserved n
@@ -19,3 +33,7 @@ module _ {N M R : Type 0} (numbers : M → N) (possible : M → Bool) (unserved 
     refused = λ none. absurd (false≢true (sym (none m e) ∙ can));
     leaves = λ _. (after m, (sym left, kept m can));
   }
+
+  -- the same told in other words
+  pub told_call : (n : N) (r r' : R) (n' : N) → r' ≡ r → Call numbers possible unserved answer after n r n' → Call numbers possible unserved answer after n r' n'
+  told_call n r r' n' same call = subst (λ x. Call numbers possible unserved answer after n x n') (sym same) call

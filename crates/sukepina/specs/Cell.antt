@@ -14,8 +14,8 @@ use Rattle.monitor.specs.declared.monitor.Monitor.{Monitor}
 use Rattle.switches.specs.Direct.{contact_at, direct}
 use Rattle.switches.specs.declared.direct.DirectContact.{DirectContact}
 use Rattle.sukepina.specs.Boundary.{Accepted}
-use Rattle.sukepina.specs.Core.{core_fits, core_numbers, flag, is_flag, on, panel_of, state_of}
-use Rattle.sukepina.specs.Maybe.{number_if, or_0, or_0_fits, there}
+use Rattle.sukepina.specs.Core.{core_numbers, flag}
+use Rattle.sukepina.specs.Maybe.{or_0, there}
 use Rattle.sukepina.specs.Possible.{core_possible, implies, same}
 use Rattle.sukepina.specs.declared.numbers.CellNumbers.{CellNumbers}
 
@@ -30,24 +30,12 @@ cell_numbers m = record {
   closed = flag m.switch.closed;
 }
 
--- what the numbers stand for, with a plate
-abbrev pub cell_with : CellNumbers → Plate → CellMonitor
-cell_with n p = monitor_with (last_took (number_if (on n.taken) n.word)) (contact_at (on n.closed)) p (state_of n.core) (panel_of n.core)
-
-abbrev pub cell_fits : CellNumbers → Bool
-cell_fits n = core_fits n.core && (or_0_fits n.taken n.word && is_flag n.closed)
-
 -- only a dark monitor's cell took nothing yet; the contact is closed exactly if the state drives the pump
 abbrev pub cell_possible : CellMonitor → Bool
 cell_possible m =
     core_possible m.plate m.state m.panel (cell.reading m.gauge)
     && (implies (there m.gauge.word == 0) (is m.state.mode Dark)
     && same m.switch.closed (drives m.state))
-
--- the plate of numbers that stand for something, or none if they are no monitor's
-abbrev pub CellPlate : CellNumbers → Option Plate → Type 0
-CellPlate n (Some p) = (p.numbers ≡ n.core.plate) × (cell_fits n ≡ true)
-CellPlate n None = (m : CellMonitor) → cell_numbers m ≡ n → cell_possible m ≡ false
 
 -- A set-up that answered r and left n': 6, and nothing changed, if the plate breaks a rule; else the numbers of a dark
 -- monitor with that plate, which the next call accepts, and which keeps the three promises over every run of calls.

@@ -1,5 +1,5 @@
 -- A monitor's plate, state and panel as plain numbers, and what such numbers stand for.
-use Rattle.std.specs.Prelude.{ℕ, Bool, cond, ◌&&◌, ◌==◌, nat_le}
+use Rattle.std.specs.Prelude.{ℕ, Bool, true, false, cond, Some, None, Option, ◌==◌}
 use Rattle.control.specs.State.{operate, watched}
 use Rattle.control.specs.declared.mode.FailureMode.{FailureMode}
 use Rattle.control.specs.declared.mode.FailureMode.TheVariants.{Allok, Badlevdev, Hardfail}
@@ -12,6 +12,7 @@ use Rattle.control.specs.declared.mode.Watchdog.TheVariants as watchdog
 use Rattle.control.specs.declared.plate.Plate.{Plate}
 use Rattle.control.specs.declared.state.State.{State}
 use Rattle.display.specs.declared.panel.Panel.{Panel}
+use Rattle.sukepina.specs.declared.core_numbers.Core.{Core}
 use Rattle.sukepina.specs.declared.numbers.CoreNumbers.{CoreNumbers}
 
 abbrev pub mode_number : Mode → ℕ
@@ -48,50 +49,26 @@ core_numbers p st d = record {
   figure = d.figure;
 }
 
--- Back again; a number without a meaning is taken for some mode, and `core_fits` says that there is none.
+-- a monitor's parts but for its gauge and its switch; any of them are possible
+abbrev pub numbers_of : Core → CoreNumbers
+numbers_of x = core_numbers x.plate x.state x.panel
 
-abbrev pub mode_of : ℕ → Mode
-mode_of n = cond (n == 1) Standby (cond (n == 2) Operating (cond (n == 3) Shutdown (cond (n == 4) Test Dark)))
+abbrev pub every : {A : Type 0} → A → Bool
+every x = true
 
-abbrev pub failure_of : ℕ → FailureMode
-failure_of n = cond (n == 1) Badlevdev (cond (n == 2) Hardfail Allok)
+-- Back again; none for a number that stands for nothing.
 
-abbrev pub on : ℕ → Bool
-on n = n == 1
+abbrev pub mode_of : ℕ → Option Mode
+mode_of n = cond (n == 0) (Some Dark) (cond (n == 1) (Some Standby) (cond (n == 2) (Some Operating) (cond (n == 3) (Some Shutdown) (cond (n == 4) (Some Test) None))))
 
-abbrev pub signal_of : ℕ → Signal
-signal_of n = cond (on n) signal.Operate signal.Shutdown
+abbrev pub failure_of : ℕ → Option FailureMode
+failure_of n = cond (n == 0) (Some Allok) (cond (n == 1) (Some Badlevdev) (cond (n == 2) (Some Hardfail) None))
 
-abbrev pub watchdog_of : ℕ → Watchdog
-watchdog_of n = cond (on n) watchdog.Operate watchdog.Shut
+abbrev pub signal_of : ℕ → Option Signal
+signal_of n = cond (n == 0) (Some signal.Shutdown) (cond (n == 1) (Some signal.Operate) None)
 
-abbrev pub state_of : CoreNumbers → State
-state_of n = record {
-  mode = mode_of n.mode;
-  failure = failure_of n.failure;
-  signal = signal_of n.signal;
-  watchdog = watchdog_of n.watchdog;
-  time = n.time;
-  entered = n.entered;
-  reset = record { down = on n.reset_down; since = n.reset_since };
-  test = record { down = on n.test_down; since = n.test_since };
-}
+abbrev pub watchdog_of : ℕ → Option Watchdog
+watchdog_of n = cond (n == 0) (Some watchdog.Shut) (cond (n == 1) (Some watchdog.Operate) None)
 
-abbrev pub panel_of : CoreNumbers → Panel
-panel_of n = record { warnings = record { high = on n.high; low = on n.low; alarm = on n.alarm }; figure = n.figure }
-
-abbrev pub is_flag : ℕ → Bool
-is_flag n = nat_le n 1
-
--- each number but the plate's stands for something
-abbrev pub core_fits : CoreNumbers → Bool
-core_fits n =
-    nat_le n.mode 4
-    && (nat_le n.failure 2
-    && (is_flag n.signal
-    && (is_flag n.watchdog
-    && (is_flag n.reset_down
-    && (is_flag n.test_down
-    && (is_flag n.high
-    && (is_flag n.low
-    && is_flag n.alarm)))))))
+abbrev pub flag_of : ℕ → Option Bool
+flag_of n = cond (n == 0) (Some false) (cond (n == 1) (Some true) None)

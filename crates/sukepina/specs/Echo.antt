@@ -26,10 +26,9 @@ use Rattle.switches.specs.declared.drive.DriveWord.{DriveWord}
 use Rattle.switches.specs.declared.rest.Rest.{Rest}
 use Rattle.switches.specs.declared.rest_time.RestTime.{RestTime}
 use Rattle.sukepina.specs.Boundary.{Accepted}
-use Rattle.sukepina.specs.Core.{core_fits, core_numbers, on, panel_of, state_of}
-use Rattle.sukepina.specs.Maybe.{number_if, or_0, or_0_fits, there}
+use Rattle.sukepina.specs.Core.{core_numbers}
+use Rattle.sukepina.specs.Maybe.{or_0, there}
 use Rattle.sukepina.specs.Possible.{core_possible, implies}
-use Rattle.sukepina.specs.declared.echo.EchoParts.{EchoParts}
 use Rattle.sukepina.specs.declared.numbers.EchoNumbers.{EchoNumbers}
 
 abbrev pub Resting : Type 0
@@ -47,17 +46,11 @@ abbrev pub level_number : Reading → ℕ
 level_number (Level units) = units
 level_number (Faulty f) = 0
 
-abbrev pub reading_of : ℕ → ℕ → Reading
-reading_of fault level = cond (fault == 2) (fresh Lost) (cond (fault == 3) (fresh Reach) (cond (fault == 5) (fresh Nothing) (Level level)))
-
-abbrev pub reading_fits : ℕ → ℕ → Bool
-reading_fits fault level = fault == 0 || ((fault == 2 || (fault == 3 || fault == 5)) && level == 0)
+abbrev pub reading_numbers : Reading → ℕ × ℕ
+reading_numbers r = (fault_number r, level_number r)
 
 abbrev pub word_fits : ℕ → Bool
 word_fits w = w == 0x00FF || w == 0xFF00
-
-abbrev pub word_of : ℕ → ℕ
-word_of w = cond (w == 0x00FF) 0x00FF 0xFF00
 
 abbrev pub echo_numbers : EchoMonitor → EchoNumbers
 echo_numbers m = record {
@@ -71,14 +64,6 @@ echo_numbers m = record {
   level = level_number m.gauge.last;
   drive = m.switch.below.word;
 }
-
--- what the numbers stand for, with a plate, a gauge and a rest
-abbrev pub echo_with : EchoNumbers → Plate → Echo → RestTime → EchoMonitor
-echo_with n p g t =
-    monitor_with g (rest_with (word_at (word_of n.drive)) t n.last_tick (number_if (on n.opened) n.opening)) p (state_of n.core) (panel_of n.core)
-
-abbrev pub echo_fits : EchoNumbers → Bool
-echo_fits n = core_fits n.core && (or_0_fits n.opened n.opening && (reading_fits n.fault n.level && word_fits n.drive))
 
 -- an echo gauge has no other faults, and none from a gauge below
 abbrev pub cause_read : Cause → Bool
@@ -113,16 +98,6 @@ echo_possible m =
     core_possible m.plate m.state m.panel m.gauge.last
     && (gauge_possible m.gauge.last m.state.mode
     && switch_possible m.switch m.state)
-
--- plate, gauge and rest of numbers that stand for something, or none if they are no monitor's
-abbrev pub EchoMade : EchoNumbers → Option EchoParts → Type 0
-EchoMade n (Some x) =
-    (echo_fits n ≡ true)
-    × (x.plate.numbers ≡ n.core.plate)
-    × (x.gauge.mount ≡ n.mount)
-    × (x.gauge.last ≡ reading_of n.fault n.level)
-    × (x.rest.millis ≡ n.rest)
-EchoMade n None = (m : EchoMonitor) → echo_numbers m ≡ n → echo_possible m ≡ false
 
 -- which settings are allowed: the plate's rules, the mount's and the rest's range
 abbrev pub settings_allowed : PlateNumbers → Float → ℕ → Bool

@@ -1,95 +1,87 @@
-// The calls of the boundary over any gauge and any switch.
+// The calls of the boundary, on any monitor that is kept as numbers.
 ghost use Rattle.std.specs.Prelude.{◌≡◌};
-ghost use Rattle.base.specs.Refusals.{refusal_number};
 ghost use Rattle.monitor.specs.Calls.{after_feed, line_of};
-ghost use Rattle.sukepina.specs.Calls.{after_batch, answered, batch, fed, shown, told, with_step};
+ghost use Rattle.sukepina.specs.Boundary.{Call, Distinct, StaysPossible};
+ghost use Rattle.sukepina.specs.Calls.{Restored, after_batch, answered, batch, call_number, fed, no_monitor, shown, told, with_step};
 
+use crate::call_error::CallError;
+use crate::monitor_numbers::MonitorNumbers;
 use crate::numbers::StepNumbers;
 use base::Refusal;
-use gauges::Gauge;
 use monitor::Monitor;
 use records::Step;
 use report::write_lines;
-use switches::Switch;
-
-// The answer to numbers that no monitor can have.
-pub(crate) const NO_MONITOR: u32 = 7;
 
 // Room enough for every line.
 const LINE_ROOM: usize = 64;
 
-// One step: 0, or the refusal's number.
-pub(crate) fn step<G: Gauge, S: Switch>(monitor: &mut Monitor<G, S>, numbers: &StepNumbers) -> u32
-    ensures value { result ≡ answered (told numbers.now) }
-    ensures after { monitor.new ≡ with_step G.Gauge.model S.Switch.model (told numbers.now) monitor.old }
+// One step.
+pub(crate) fn step<N: MonitorNumbers>(numbers: &mut N, facts: &StepNumbers) -> Result<(), CallError>
+    ensures { Call N.numbers N.possible no_monitor (λ _. answered (told facts.now)) (with_step N.G.Gauge.model N.S.Switch.model (told facts.now)) numbers.old (call_number result) numbers.new }
 {
-    let step = match Step::from_flags(numbers.facts, numbers.time, numbers.a, numbers.b) {
-        Ok(step) => step,
-        Err(refusal) => return number(refusal),
+    N::laws();
+    let Some(mut monitor) = numbers.monitor() else {
+        return Err(CallError::NoMonitor);
     };
-    match monitor.step(step) {
-        Ok(()) => 0,
-        Err(refusal) => number(refusal),
-    }
+    let step = Step::from_flags(facts.facts, facts.time, facts.a, facts.b)?;
+    monitor.step(step)?;
+    *numbers = N::of(&monitor);
+    Ok(())
 }
 
 // Steps with the record at the place, and moves the place on.
-pub(crate) fn feed<G: Gauge, S: Switch>(
-    monitor: &mut Monitor<G, S>,
+pub(crate) fn feed<N: MonitorNumbers>(
+    numbers: &mut N,
     bytes: &[u8],
     place: &mut usize,
-) -> u32
-    ensures value { (result, place.new) ≡ fed bytes.now place.old }
-    ensures after { monitor.new ≡ after_feed G.Gauge.model S.Switch.model monitor.old bytes.now place.old }
+) -> Result<(), CallError>
+    ensures { Call N.numbers N.possible (no_monitor, place.old) (λ _. fed bytes.now place.old) (λ m. after_feed N.G.Gauge.model N.S.Switch.model m bytes.now place.old) numbers.old (call_number result, place.new) numbers.new }
 {
-    match monitor.feed(bytes, *place) {
-        Ok(next) => {
-            *place = next;
-            0
-        }
-        Err(fault) => number(fault.refusal),
-    }
+    N::laws();
+    let Some(mut monitor) = numbers.monitor() else {
+        return Err(CallError::NoMonitor);
+    };
+    *place = monitor.feed(bytes, *place)?;
+    *numbers = N::of(&monitor);
+    Ok(())
 }
 
 // Writes the line and its length.
-pub(crate) fn readout<G: Gauge, S: Switch>(
-    monitor: &Monitor<G, S>,
+pub(crate) fn readout<N: MonitorNumbers>(
+    numbers: &N,
     out: &mut [u8],
     len: &mut usize,
-) -> u32
-    ensures { (result, out.new, len.new) ≡ shown (line_of S.Switch.model monitor.now) out.old len.old }
+) -> Result<(), CallError>
+    ensures { Call N.numbers N.possible (no_monitor, out.old, len.old) (λ m. shown (line_of N.S.Switch.model m) out.old len.old) (λ m. m) numbers.now (call_number result, out.new, len.new) numbers.now }
 {
-    match monitor.readout(out) {
-        Ok(written) => {
-            *len = written;
-            0
-        }
-        Err(refusal) => number(refusal),
-    }
+    N::laws();
+    let Some(monitor) = numbers.monitor() else {
+        return Err(CallError::NoMonitor);
+    };
+    *len = monitor.readout(out)?;
+    Ok(())
 }
 
 // From record bytes to report lines: as many as there is room for.
-pub(crate) fn lines<G: Gauge, S: Switch>(
-    monitor: &mut Monitor<G, S>,
+pub(crate) fn lines<N: MonitorNumbers>(
+    numbers: &mut N,
     bytes: &[u8],
     place: &mut usize,
     out: &mut [u8],
     written: &mut usize,
-) -> u32
-    ensures value { (result, place.new, out.new, written.new) ≡ batch G.Gauge.model S.Switch.model bytes.now place.old out.old written.old monitor.old }
-    ensures after { monitor.new ≡ after_batch G.Gauge.model S.Switch.model bytes.now place.old out.old monitor.old }
+) -> Result<(), CallError>
+    ensures { Call N.numbers N.possible (no_monitor, place.old, out.old, written.old) (batch N.G.Gauge.model N.S.Switch.model bytes.now place.old out.old written.old) (after_batch N.G.Gauge.model N.S.Switch.model bytes.now place.old out.old) numbers.old (call_number result, place.new, out.new, written.new) numbers.new }
 {
+    N::laws();
+    let Some(mut monitor) = numbers.monitor() else {
+        return Err(CallError::NoMonitor);
+    };
     if *place < bytes.len() && out.len() < LINE_ROOM {
-        return number(Refusal::Output);
+        Err(Refusal::Output)?
     }
-    let done = write_lines(monitor, bytes, *place, out);
+    let done = write_lines(&mut monitor, bytes, *place, out);
+    *numbers = N::of(&monitor);
     *place = done.place;
     *written = done.written;
-    0
-}
-
-pub(crate) fn number(refusal: Refusal) -> u32
-    ensures { result ≡ refusal_number refusal }
-{
-    u32::from(refusal.number())
+    Ok(())
 }

@@ -1,73 +1,73 @@
 ghost use Rattle.std.specs.Prelude.{◌≡◌};
-ghost use Rattle.sukepina.specs.Cell.{CellMonitor, CellPlate, cell_fits, cell_numbers, cell_possible, cell_with};
+ghost use Rattle.sukepina.specs.Calls.{call_number};
+ghost use Rattle.sukepina.specs.Cell.{CellMonitor, CellSetUp, cell_numbers, cell_possible};
 
-use crate::core_numbers::{flag, is_flag, is_on};
-use crate::maybe::{number_if, or_0_fits, or_else, there};
+use crate::call_error::CallError;
+use crate::core_numbers::flag_of;
+use crate::monitor_numbers::MonitorNumbers;
 use crate::numbers::{CellNumbers, CoreNumbers};
 use crate::possible::is_possible;
-use control::{Mode, Plate};
+use control::{Mode, Plate, PlateNumbers};
 use gauges::{Cell, Gauge};
 use monitor::Monitor;
 use switches::{DirectContact, Switch};
 
-// A function with a parameter `CALL` is made anew for each call of the boundary, so that the compiler can take it in
-// whole: the number does nothing else.
+impl MonitorNumbers for CellNumbers {
+    type G = Cell;
+    type S = DirectContact;
 
-impl CellNumbers {
-    pub(crate) fn new(monitor: &Monitor<Cell, DirectContact>) -> CellNumbers
-        ensures { result ≡ cell_numbers monitor.now }
-    {
+    ghost numbers = { cell_numbers };
+
+    ghost possible = { cell_possible };
+
+    fn of(monitor: &Monitor<Cell, DirectContact>) -> CellNumbers {
         let word = monitor.gauge().word();
         CellNumbers {
             core: CoreNumbers::new(monitor.plate(), monitor.state(), monitor.panel()),
-            taken: there(word),
-            word: or_else(word, 0),
-            closed: flag(monitor.switch().is_closed()),
+            taken: u32::from(word.is_some()),
+            word: word.unwrap_or(0),
+            closed: u32::from(monitor.switch().is_closed()),
         }
     }
 
-    // The plate, if each number stands for something.
-    pub(crate) fn plate<const CALL: u8>(&self) -> Option<Plate>
-        ensures { CellPlate self.now result }
-    {
-        if !self.fits() {
+    #[inline(always)]
+    fn monitor(&self) -> Option<Monitor<Cell, DirectContact>> {
+        let core = self.core.parts()?;
+        let word = flag_of(self.taken)?.then_some(self.word);
+        if word.unwrap_or(0) != self.word {
             return None;
         }
-        let Ok(plate) = Plate::new(self.core.plate) else {
+        let gauge = Cell::restore(word);
+        let switch = DirectContact::new(flag_of(self.closed)?);
+        let monitor = Monitor::restore(gauge, switch, core.plate, core.state, core.panel);
+        if !is_cell_possible(&monitor) {
             return None;
-        };
-        Some(plate)
+        }
+        Some(monitor)
     }
 
-    // What the numbers stand for, with that plate.
-    pub(crate) fn stands_for<const CALL: u8>(&self, plate: Plate) -> Monitor<Cell, DirectContact>
-        ensures { result ≡ cell_with self.now plate }
-    {
-        Monitor::restore(
-            Cell::restore(number_if(is_on(self.taken), self.word)),
-            DirectContact::new(is_on(self.closed)),
-            plate,
-            self.core.state(),
-            self.core.panel(),
-        )
-    }
-
-    fn fits(&self) -> bool
-        ensures { result ≡ cell_fits self.now }
-    {
-        self.core.fits() && or_0_fits(self.taken, u64::from(self.word)) && is_flag(self.closed)
-    }
+    fn laws() {}
 }
 
-pub(crate) fn is_cell_possible<const CALL: u8>(monitor: &Monitor<Cell, DirectContact>) -> bool
+// A dark monitor, its contact open.
+pub(crate) fn set_up(numbers: &mut CellNumbers, plate: &PlateNumbers) -> Result<(), CallError>
+    ensures { CellSetUp plate.now numbers.old (call_number result) numbers.new }
+{
+    let plate = Plate::new(*plate)?;
+    let monitor = Monitor::set_up(Cell::new(), DirectContact::new(false), plate);
+    *numbers = CellNumbers::of(&monitor);
+    Ok(())
+}
+
+fn is_cell_possible(monitor: &Monitor<Cell, DirectContact>) -> bool
     ensures { result ≡ cell_possible monitor.now }
 {
     let state = monitor.state();
-    is_possible::<CALL>(
+    is_possible(
         &monitor.plate(),
         &state,
         &monitor.panel(),
         monitor.gauge().reading(),
-    ) && (there(monitor.gauge().word()) != 0 || state.mode == Mode::Dark)
+    ) && (monitor.gauge().word().is_some() || state.mode == Mode::Dark)
         && monitor.switch().is_closed() == state.drives()
 }

@@ -1,10 +1,18 @@
 ghost use Rattle.std.specs.Prelude.{◌≡◌};
-ghost use Rattle.control.specs.State.{operate, watched};
-ghost use Rattle.sukepina.specs.Core.{core_fits, core_numbers, failure_number, failure_of, flag, is_flag, mode_number, mode_of, panel_of, signal_of, state_of, watchdog_of, on};
+ghost use Rattle.sukepina.specs.Boundary.{StandsFor};
+ghost use Rattle.sukepina.specs.Core.{core_numbers, every, failure_number, failure_of, flag_of, mode_number, mode_of, numbers_of, signal_of, watchdog_of};
 
 use crate::numbers::CoreNumbers;
 use control::{Button, FailureMode, Mode, Plate, Signal, State, Watchdog};
 use display::{Panel, Warnings};
+
+// A monitor but for its gauge and its switch.
+#[derive(Clone, Copy)]
+pub(crate) struct Core {
+    pub(crate) plate: Plate,
+    pub(crate) state: State,
+    pub(crate) panel: Panel,
+}
 
 impl CoreNumbers {
     pub(crate) fn new(plate: Plate, state: State, panel: Panel) -> CoreNumbers
@@ -19,67 +27,55 @@ impl CoreNumbers {
             plate: plate.numbers(),
             mode: mode_number(state.mode),
             failure: failure_number(state.failure),
-            signal: signal_number(state.signal),
-            watchdog: watchdog_number(state.watchdog),
-            reset_down: flag(state.reset.down),
-            test_down: flag(state.test.down),
-            high: flag(panel.warnings.high),
-            low: flag(panel.warnings.low),
-            alarm: flag(panel.warnings.alarm),
+            signal: u32::from(state.signal == Signal::Operate),
+            watchdog: u32::from(state.watchdog == Watchdog::Operate),
+            reset_down: u32::from(state.reset.down),
+            test_down: u32::from(state.test.down),
+            high: u32::from(panel.warnings.high),
+            low: u32::from(panel.warnings.low),
+            alarm: u32::from(panel.warnings.alarm),
             figure,
         }
     }
 
-    // Whether each number but the plate's stands for something.
-    pub(crate) fn fits(&self) -> bool
-        ensures { result ≡ core_fits self.now }
-    {
-        self.mode <= 4
-            && self.failure <= 2
-            && is_flag(self.signal)
-            && is_flag(self.watchdog)
-            && is_flag(self.reset_down)
-            && is_flag(self.test_down)
-            && is_flag(self.high)
-            && is_flag(self.low)
-            && is_flag(self.alarm)
-    }
-
-    pub(crate) fn state(&self) -> State
-        ensures { result ≡ state_of self.now }
-    {
-        State {
-            mode: mode_of(self.mode),
-            failure: failure_of(self.failure),
-            signal: signal_of(self.signal),
-            watchdog: watchdog_of(self.watchdog),
-            time: self.time,
-            entered: self.entered,
-            reset: Button {
-                down: is_on(self.reset_down),
-                since: self.reset_since,
-            },
-            test: Button {
-                down: is_on(self.test_down),
-                since: self.test_since,
-            },
-        }
-    }
-
-    pub(crate) fn panel(&self) -> Panel
-        ensures { result ≡ panel_of self.now }
+    // The parts that have these numbers, or none if there are none.
+    #[inline(always)]
+    pub(crate) fn parts(&self) -> Option<Core>
+        ensures { StandsFor numbers_of every self.now result }
     {
         let figure = self.figure;
-        Panel {
-            warnings: Warnings {
-                high: is_on(self.high),
-                low: is_on(self.low),
-                alarm: is_on(self.alarm),
+        Some(Core {
+            plate: Plate::new(self.plate).ok()?,
+            state: State {
+                mode: mode_of(self.mode)?,
+                failure: failure_of(self.failure)?,
+                signal: signal_of(self.signal)?,
+                watchdog: watchdog_of(self.watchdog)?,
+                time: self.time,
+                entered: self.entered,
+                reset: Button {
+                    down: flag_of(self.reset_down)?,
+                    since: self.reset_since,
+                },
+                test: Button {
+                    down: flag_of(self.test_down)?,
+                    since: self.test_since,
+                },
             },
-            figure,
-        }
+            panel: Panel {
+                warnings: Warnings {
+                    high: flag_of(self.high)?,
+                    low: flag_of(self.low)?,
+                    alarm: flag_of(self.alarm)?,
+                },
+                figure,
+            },
+        })
     }
 }
+
+// The numbers of C for what `control` knows by name, and back. No `From` or `TryFrom` can stand here, since the types are
+// that crate's; and they are written out, so that C's numbers do not follow the order of its variants.
 
 fn mode_number(mode: Mode) -> u32
     ensures { result ≡ mode_number mode }
@@ -93,15 +89,16 @@ fn mode_number(mode: Mode) -> u32
     }
 }
 
-fn mode_of(number: u32) -> Mode
+fn mode_of(number: u32) -> Option<Mode>
     ensures { result ≡ mode_of number }
 {
     match number {
-        1 => Mode::Standby,
-        2 => Mode::Operating,
-        3 => Mode::Shutdown,
-        4 => Mode::Test,
-        _ => Mode::Dark,
+        0 => Some(Mode::Dark),
+        1 => Some(Mode::Standby),
+        2 => Some(Mode::Operating),
+        3 => Some(Mode::Shutdown),
+        4 => Some(Mode::Test),
+        _ => None,
     }
 }
 
@@ -115,67 +112,44 @@ fn failure_number(failure: FailureMode) -> u32
     }
 }
 
-fn failure_of(number: u32) -> FailureMode
+fn failure_of(number: u32) -> Option<FailureMode>
     ensures { result ≡ failure_of number }
 {
     match number {
-        1 => FailureMode::Badlevdev,
-        2 => FailureMode::Hardfail,
-        _ => FailureMode::Allok,
+        0 => Some(FailureMode::Allok),
+        1 => Some(FailureMode::Badlevdev),
+        2 => Some(FailureMode::Hardfail),
+        _ => None,
     }
 }
 
-fn signal_number(signal: Signal) -> u32
-    ensures { result ≡ flag (operate signal) }
-{
-    match signal {
-        Signal::Shutdown => 0,
-        Signal::Operate => 1,
-    }
-}
-
-fn signal_of(number: u32) -> Signal
+fn signal_of(number: u32) -> Option<Signal>
     ensures { result ≡ signal_of number }
 {
     match number {
-        1 => Signal::Operate,
-        _ => Signal::Shutdown,
+        0 => Some(Signal::Shutdown),
+        1 => Some(Signal::Operate),
+        _ => None,
     }
 }
 
-fn watchdog_number(watchdog: Watchdog) -> u32
-    ensures { result ≡ flag (watched watchdog) }
-{
-    match watchdog {
-        Watchdog::Shut => 0,
-        Watchdog::Operate => 1,
-    }
-}
-
-fn watchdog_of(number: u32) -> Watchdog
+fn watchdog_of(number: u32) -> Option<Watchdog>
     ensures { result ≡ watchdog_of number }
 {
     match number {
-        1 => Watchdog::Operate,
-        _ => Watchdog::Shut,
+        0 => Some(Watchdog::Shut),
+        1 => Some(Watchdog::Operate),
+        _ => None,
     }
 }
 
-// A yes or no, and back.
-pub(crate) fn flag(on: bool) -> u32
-    ensures { result ≡ flag on }
+// A yes or no: the way there is `u32::from`.
+pub(crate) fn flag_of(number: u32) -> Option<bool>
+    ensures { result ≡ flag_of number }
 {
-    if on { 1 } else { 0 }
-}
-
-pub(crate) fn is_on(number: u32) -> bool
-    ensures { result ≡ on number }
-{
-    number == 1
-}
-
-pub(crate) fn is_flag(number: u32) -> bool
-    ensures { result ≡ is_flag number }
-{
-    number <= 1
+    match number {
+        0 => Some(false),
+        1 => Some(true),
+        _ => None,
+    }
 }

@@ -1,11 +1,14 @@
 ghost use Rattle.std.specs.Prelude.{◌≡◌};
-ghost use Rattle.sukepina.specs.Echo.{EchoMade, EchoMonitor, Resting, cause_read, echo_fits, echo_numbers, echo_possible, echo_read, echo_with, fault_number, gauge_possible, level_number, opening_possible, reading_fits, reading_of, rest_possible, switch_possible, word_fits, word_of};
+ghost use Rattle.sukepina.specs.Boundary.{StandsFor};
+ghost use Rattle.sukepina.specs.Calls.{call_number};
+ghost use Rattle.sukepina.specs.Echo.{EchoMonitor, EchoSetUp, Resting, cause_read, echo_numbers, echo_possible, echo_read, fault_number, gauge_possible, level_number, opening_possible, reading_numbers, rest_possible, switch_possible, word_fits};
 
-use crate::core_numbers::is_on;
-use crate::maybe::{number_if, or_0_fits, or_else, there};
+use crate::call_error::CallError;
+use crate::core_numbers::flag_of;
+use crate::monitor_numbers::MonitorNumbers;
 use crate::numbers::{CoreNumbers, EchoNumbers};
 use crate::possible::is_possible;
-use control::{Mode, Plate, State};
+use control::{Mode, Plate, PlateNumbers, State};
 use gauges::{Cause, Echo, Gauge, Reading, fresh_fault};
 use monitor::Monitor;
 use switches::{DriveWord, Rest, RestTime};
@@ -13,20 +16,17 @@ use switches::{DriveWord, Rest, RestTime};
 // The words that a drive's switch writes.
 const CLOSED_WORD: u16 = 0x00FF;
 
-pub(crate) const OPEN_WORD: u16 = 0xFF00;
+const OPEN_WORD: u16 = 0xFF00;
 
-// What has a range of its own.
-#[derive(Clone, Copy)]
-pub(crate) struct EchoParts {
-    pub(crate) plate: Plate,
-    pub(crate) gauge: Echo,
-    pub(crate) rest: RestTime,
-}
+impl MonitorNumbers for EchoNumbers {
+    type G = Echo;
+    type S = Rest<DriveWord>;
 
-impl EchoNumbers {
-    pub(crate) fn new(monitor: &Monitor<Echo, Rest<DriveWord>>) -> EchoNumbers
-        ensures { result ≡ echo_numbers monitor.now }
-    {
+    ghost numbers = { echo_numbers };
+
+    ghost possible = { echo_possible };
+
+    fn of(monitor: &Monitor<Echo, Rest<DriveWord>>) -> EchoNumbers {
         let switch = monitor.switch();
         let opening = switch.opening_tick();
         let reading = monitor.gauge().reading();
@@ -34,8 +34,8 @@ impl EchoNumbers {
             core: CoreNumbers::new(monitor.plate(), monitor.state(), monitor.panel()),
             rest: switch.rest().millis(),
             last_tick: switch.last_tick(),
-            opening: or_else(opening, 0),
-            opened: there(opening),
+            opening: opening.unwrap_or(0),
+            opened: u32::from(opening.is_some()),
             mount: monitor.gauge().mount(),
             fault: fault_number(reading),
             level: level_number(reading),
@@ -43,59 +43,51 @@ impl EchoNumbers {
         }
     }
 
-    // Plate, gauge and rest, if each number stands for something.
-    pub(crate) fn parts<const CALL: u8>(&self) -> Option<EchoParts>
-        ensures { EchoMade self.now result }
-    {
-        if !self.fits() {
+    #[inline(always)]
+    fn monitor(&self) -> Option<Monitor<Echo, Rest<DriveWord>>> {
+        let core = self.core.parts()?;
+        let gauge = Echo::restore(self.mount, reading_of(self.fault, self.level)?)?;
+        let rest = RestTime::new(self.rest).ok()?;
+        let opening = flag_of(self.opened)?.then_some(self.opening);
+        if opening.unwrap_or(0) != self.opening {
             return None;
         }
-        let Ok(plate) = Plate::new(self.core.plate) else {
+        let below = DriveWord::new(u16::try_from(self.drive).ok()?);
+        let switch = Rest::restore(below, rest, self.last_tick, opening);
+        let monitor = Monitor::restore(gauge, switch, core.plate, core.state, core.panel);
+        if !is_echo_possible(&monitor) {
             return None;
-        };
-        let Some(gauge) = Echo::restore(self.mount, reading_of(self.fault, self.level)) else {
-            return None;
-        };
-        let Ok(rest) = RestTime::new(self.rest) else {
-            return None;
-        };
-        Some(EchoParts { plate, gauge, rest })
+        }
+        Some(monitor)
     }
 
-    // What the numbers stand for, with these parts.
-    pub(crate) fn stands_for<const CALL: u8>(
-        &self,
-        parts: EchoParts,
-    ) -> Monitor<Echo, Rest<DriveWord>>
-        ensures { result ≡ echo_with self.now parts.plate parts.gauge parts.rest }
-    {
-        let below = DriveWord::new(word_of(self.drive));
-        let opening = number_if(is_on(self.opened), self.opening);
-        Monitor::restore(
-            parts.gauge,
-            Rest::restore(below, parts.rest, self.last_tick, opening),
-            parts.plate,
-            self.core.state(),
-            self.core.panel(),
-        )
-    }
-
-    fn fits(&self) -> bool
-        ensures { result ≡ echo_fits self.now }
-    {
-        self.core.fits()
-            && or_0_fits(self.opened, self.opening)
-            && reading_fits(self.fault, self.level)
-            && word_fits(self.drive)
-    }
+    fn laws() {}
 }
 
-pub(crate) fn is_echo_possible<const CALL: u8>(monitor: &Monitor<Echo, Rest<DriveWord>>) -> bool
+// A dark monitor, its contact open.
+pub(crate) fn set_up(
+    numbers: &mut EchoNumbers,
+    plate: &PlateNumbers,
+    mount: f32,
+    rest: u64,
+) -> Result<(), CallError>
+    ensures { EchoSetUp plate.now mount rest numbers.old (call_number result) numbers.new }
+{
+    let plate = Plate::new(*plate)?;
+    let gauge = Echo::new(mount)?;
+    let rest = RestTime::new(rest)?;
+    let switch = Rest::new(DriveWord::new(OPEN_WORD), rest);
+    let monitor = Monitor::set_up(gauge, switch, plate);
+    *numbers = EchoNumbers::of(&monitor);
+    Ok(())
+}
+
+fn is_echo_possible(monitor: &Monitor<Echo, Rest<DriveWord>>) -> bool
     ensures { result ≡ echo_possible monitor.now }
 {
     let state = monitor.state();
     let reading = monitor.gauge().reading();
-    is_possible::<CALL>(&monitor.plate(), &state, &monitor.panel(), reading)
+    is_possible(&monitor.plate(), &state, &monitor.panel(), reading)
         && gauge_is_possible(reading, state.mode)
         && switch_is_possible(monitor.switch(), &state)
 }
@@ -119,7 +111,7 @@ fn rest_is_possible(switch: &Rest<DriveWord>, time: u64) -> bool
 {
     switch.last_tick() == time
         && opening_is_possible(switch.opening_tick(), switch.last_tick())
-        && word_fits(u32::from(switch.below().word()))
+        && [CLOSED_WORD, OPEN_WORD].contains(&switch.below().word())
 }
 
 fn opening_is_possible(opening: Option<u64>, last: u64) -> bool
@@ -169,35 +161,15 @@ fn level_number(reading: Reading) -> u32
     }
 }
 
-fn reading_of(fault: u32, level: u32) -> Reading
-    ensures { result ≡ reading_of fault level }
+// The echo gauge's reading with these numbers, or none if there is none.
+fn reading_of(fault: u32, level: u32) -> Option<Reading>
+    ensures { StandsFor reading_numbers echo_read (fault, level) result }
 {
-    match fault {
-        2 => fresh_fault(Cause::Lost),
-        3 => fresh_fault(Cause::Reach),
-        5 => fresh_fault(Cause::Nothing),
-        _ => Reading::Level(level),
-    }
-}
-
-fn reading_fits(fault: u32, level: u32) -> bool
-    ensures { result ≡ reading_fits fault level }
-{
-    fault == 0 || ((fault == 2 || fault == 3 || fault == 5) && level == 0)
-}
-
-fn word_fits(word: u32) -> bool
-    ensures { result ≡ word_fits word }
-{
-    word == u32::from(CLOSED_WORD) || word == u32::from(OPEN_WORD)
-}
-
-fn word_of(word: u32) -> u16
-    ensures { result ≡ word_of word }
-{
-    if word == u32::from(CLOSED_WORD) {
-        CLOSED_WORD
-    } else {
-        OPEN_WORD
+    match (fault, level) {
+        (0, level) => Some(Reading::Level(level)),
+        (2, 0) => Some(fresh_fault(Cause::Lost)),
+        (3, 0) => Some(fresh_fault(Cause::Reach)),
+        (5, 0) => Some(fresh_fault(Cause::Nothing)),
+        _ => None,
     }
 }

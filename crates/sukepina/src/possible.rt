@@ -8,7 +8,8 @@ use control::{Button, FailureMode, Mode, Plate, Signal, State, Watchdog};
 use display::Panel;
 use gauges::Reading;
 
-pub(crate) fn is_possible<const CALL: u8>(
+#[inline(always)]
+pub(crate) fn is_possible(
     plate: &Plate,
     state: &State,
     panel: &Panel,
