@@ -6,6 +6,7 @@ use crate::step::{MARK, RECORD_LEN, Step};
 use base::{Refusal, TIME_LIMIT};
 
 // Writes the step's record at the front of `out` and answers its length.
+#[tactic(auto, using(crate::proofs::RoundTrip::reads_back))]
 pub fn write_step(step: Step, out: &mut [u8]) -> Result<usize, Refusal>
     ensures { Written step out.old result out.new }
 {
@@ -38,8 +39,8 @@ fn flags_of(step: Step) -> u8
     ensures { result ≡ flag_byte step }
 {
     u8::from(step.power)
-        + 2 * u8::from(step.reset)
-        + 4 * u8::from(step.self_test)
-        + 8 * u8::from(step.memory_failed)
-        + 16 * u8::from(step.clock_failed)
+        | u8::from(step.reset) << 1
+        | u8::from(step.self_test) << 2
+        | u8::from(step.memory_failed) << 3
+        | u8::from(step.clock_failed) << 4
 }
