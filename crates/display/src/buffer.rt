@@ -73,7 +73,7 @@ impl Buffer {
         ensures most { length self.new ≤ 20 + length self.old }
     {
         let mut left = number;
-        // Over the digits, two at a time, for which there is no iterator.
+        // Over the digits, two at a time: where the library writes a number, the writing may fail.
         while left >= 100 {
             self.before(&two_digits(left % 100));
             left /= 100;
