@@ -33,7 +33,7 @@ CHANGES = {
         (TRANSITION_SPEC, "in_allok mode.Operating reset old = cond reset old signal.Operate", "in_allok mode.Operating reset old = signal.Operate"),
     ],
     "a fault forgotten when the gauge recovers": [
-        (TRANSITION, "        FailureMode::Allok if bad => FailureMode::Badlevdev,", "        FailureMode::Allok | FailureMode::Badlevdev if bad => FailureMode::Badlevdev,\n        FailureMode::Badlevdev => FailureMode::Allok,"),
+        (TRANSITION, "    failure.max(found)", "    if failure == FailureMode::Badlevdev {\n        found\n    } else {\n        failure.max(found)\n    }"),
         (TRANSITION_SPEC, "worse Badlevdev false bad = Badlevdev", "worse Badlevdev false bad = cond bad Badlevdev Allok"),
     ],
     "a self test held down that keeps the pump on": [

@@ -14,7 +14,7 @@ pub enum Mode {
 }
 
 // The failure mode. It only worsens while power stays on.
-#[derive(Clone, Copy, PartialEq, Eq, Debug)]
+#[derive(Clone, Copy, PartialEq, Eq, PartialOrd, Ord, Debug)]
 pub enum FailureMode {
     Allok,
     Badlevdev,

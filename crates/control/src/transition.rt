@@ -130,11 +130,14 @@ fn start(plate: &Plate, step: Step, reading: Reading) -> State
 fn worse(failure: FailureMode, failed: bool, bad: bool) -> FailureMode
     ensures { result ≡ worse failure failed bad }
 {
-    match failure {
-        _ if failed => FailureMode::Hardfail,
-        FailureMode::Allok if bad => FailureMode::Badlevdev,
-        stays => stays,
-    }
+    let found = if failed {
+        FailureMode::Hardfail
+    } else if bad {
+        FailureMode::Badlevdev
+    } else {
+        FailureMode::Allok
+    };
+    failure.max(found)
 }
 
 // `reset` is whether reset is down at this step.

@@ -66,13 +66,14 @@ impl Buffer {
     }
 
     // Puts a number in decimal before what stands there: 20 digits at most.
+    #[tactic(auto, using(crate::proofs::Front::two_only, crate::proofs::Front::within, std::proofs::lemmas::Fmt::decimal_digit))]
     pub(crate) fn before_number(&mut self, number: u64)
         requires { 20 + length self.old ≤ 64 }
         ensures text { self.new ≡ decimal number ++ self.old }
         ensures most { length self.new ≤ 20 + length self.old }
     {
         let mut left = number;
-        // Over the digits, two at a time, for which there is no iterator.
+        // Over the digits, two at a time: where the library writes a number, the writing may fail.
         while left >= 100 {
             self.before(&two_digits(left % 100));
             left /= 100;
@@ -86,6 +87,7 @@ impl Buffer {
 }
 
 // Both decimal digits of a number below 100.
+#[tactic(auto, using(crate::proofs::Pairs::pair_at))]
 fn two_digits(n: u64) -> [u8; 2]
     requires { n < 100 }
     ensures { result ≡ pair n }

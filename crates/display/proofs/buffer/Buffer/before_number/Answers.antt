@@ -1,4 +1,4 @@
-use Rattle.std.proofs.Common.{◌≡◌, ◌^◌, ◌<◌, ◌/◌, ◌%◌, ◌++◌, length, decimal, ap, append_assoc, arith, length-append, rules}
+use Rattle.std.proofs.Common.{◌^◌, ◌<◌, ◌/◌, ◌%◌, length, decimal, ap, append_assoc, arith, length-append, rules}
 use Rattle.std.proofs.lemmas.Fmt.{decimal_digit}
 use Rattle.display.specs.Pair.{pair}
 use Rattle.display.proofs.Front.{two_step, two_only, two_lengths, within}
@@ -28,15 +28,3 @@ before-requires-else-left-ge10 c =
     let room = simp length-append at (within _ _ _ (search rules) c.loop-left.invariant) in
     let last = decimal_digit c.loop-left.left c.if-left-ge10.false in
     omega (arith, ap length last)
-
-pub returns-then-left-ge10 : goal.returns-then-left-ge10
-returns-then-left-ge10 c =
-    let last = two_only c.loop-left.left c.if-left-ge10.true c.loop-left-test.false in
-    let whole : c.before-then-left-ge10.new.self ≡ decimal c.args.number ++ c.args.self.now = cc in
-    record { text = whole; most = within _ _ _ (search rules) whole }
-
-pub returns-else-left-ge10 : goal.returns-else-left-ge10
-returns-else-left-ge10 c =
-    let last = decimal_digit c.loop-left.left c.if-left-ge10.false in
-    let whole : c.before-else-left-ge10.new.self ≡ decimal c.args.number ++ c.args.self.now = cc in
-    record { text = whole; most = within _ _ _ (search rules) whole }
