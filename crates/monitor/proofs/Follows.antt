@@ -105,9 +105,12 @@ module _ {G S : Type 0} (gm : gauge.Model G) (sm : switch.Model S) where
           let close = and_from _ _ (quiet_on p e (seen_by ss) long.calm) drive in
           rw (called_is m c, brought, close) (closed_if_free (sm.ticked m.switch s.time))
 
-      pub promises : Promises gm sm p g (set_up sm g s₀ p)
-      promises = record {
+      set_up_keeps : Promises gm sm p g (set_up sm g s₀ p)
+      set_up_keeps = record {
         closed_rightly = λ cs closed. driven_rightly p (seen_by (accepted_steps cs)) ((follows cs).driven closed);
         opens = opens_in_time;
         closes = closes_if_free;
       }
+
+      pub promises : (m : Monitor G S) → m ≡ set_up sm g s₀ p → Promises gm sm p g m
+      promises m made = rw made set_up_keeps

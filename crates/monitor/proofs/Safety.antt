@@ -18,22 +18,21 @@ use Rattle.monitor.proofs.Invariant.{ByMode}
 use Rattle.monitor.proofs.Logic.{still_well}
 use Rattle.std.proofs.lemmas.Bool.{and_parts}
 
-let_go_by_mode : (p : Plate) (m : Mode) (h : List Event) (sig : Signal) (now entered : ℕ) (test : Button)
-    → ByMode p m h sig now entered test → operate sig ≡ true → let_go_since_trip p h ≡ true
-let_go_by_mode p Dark h sig now entered test b d = absurd b
-let_go_by_mode p Standby h sig now entered test b d = cc
-let_go_by_mode p Operating h sig now entered test b d = b.ready.let_go d
-let_go_by_mode p Shutdown h sig now entered test b d = b.ready.let_go d
-let_go_by_mode p Test h sig now entered test b d = cc
+module _ (p : Plate) (h : List Event) (sig : Signal) (now entered : ℕ) (test : Button) (on : operate sig ≡ true) where
+  let_go_by_mode : (m : Mode) → ByMode p m h sig now entered test → let_go_since_trip p h ≡ true
+  let_go_by_mode Dark b = absurd b
+  let_go_by_mode Standby b = cc
+  let_go_by_mode Operating b = b.ready.let_go on
+  let_go_by_mode Shutdown b = b.ready.let_go on
+  let_go_by_mode Test b = cc
 
--- 500 ms in operating, 2,197 in shutdown
-spell_by_mode : (p : Plate) (m : Mode) (h : List Event) (sig : Signal) (now entered : ℕ) (test : Button) (t : ℕ)
-    → ByMode p m h sig now entered test → operate sig ≡ true → now ≡ t → since (amiss p) 2700 t h ≡ true → ⊥
-spell_by_mode p Dark h sig now entered test t b d is s = b
-spell_by_mode p Standby h sig now entered test t b d is s = cc
-spell_by_mode p Operating h sig now entered test t b d is s = omega (arith, bad_bound p test.since 0 2700 t h b.bad s)
-spell_by_mode p Shutdown h sig now entered test t b d is s = omega (arith, bad_bound p entered 999 2700 t h b.bad s)
-spell_by_mode p Test h sig now entered test t b d is s = cc
+  -- 500 ms in operating, 2,197 in shutdown
+  spell_by_mode : (m : Mode) (t : ℕ) → ByMode p m h sig now entered test → now ≡ t → since (amiss p) 2700 t h ≡ true → ⊥
+  spell_by_mode Dark t b is s = b
+  spell_by_mode Standby t b is s = cc
+  spell_by_mode Operating t b is s = omega (arith, bad_bound p test.since 0 2700 t h b.bad s)
+  spell_by_mode Shutdown t b is s = omega (arith, bad_bound p entered 999 2700 t h b.bad s)
+  spell_by_mode Test t b is s = cc
 
 module _ (p : Plate) (h : List Event) (d : drives (state_of p h) ≡ true) where
   abbrev st : State
@@ -48,11 +47,11 @@ module _ (p : Plate) (h : List Event) (d : drives (state_of p h) ≡ true) where
   pub driven_rightly : ClosedRightly p h
   driven_rightly = record {
     no_fault = (and_parts (powered h) (faultless p h) stays_well).1;
-    let_go = let_go_by_mode p st.mode h st.signal st.time st.entered st.test ((kept p h).by_mode stays_well) operates;
+    let_go = let_go_by_mode p h st.signal st.time st.entered st.test operates st.mode ((kept p h).by_mode stays_well);
   }
 
   spell_now : (t : ℕ) → st.time ≡ t → since (amiss p) 2700 t h ≡ true → ⊥
-  spell_now t = spell_by_mode p st.mode h st.signal st.time st.entered st.test t ((kept p h).by_mode stays_well) operates
+  spell_now t = spell_by_mode p h st.signal st.time st.entered st.test operates st.mode t ((kept p h).by_mode stays_well)
 
 pub no_long_spell : (p : Plate) (h : List Event) → lasted (amiss p) 2700 h ≡ true → drives (state_of p h) ≡ true → ⊥
 no_long_spell p [] l d = cc

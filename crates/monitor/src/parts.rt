@@ -1,4 +1,5 @@
 // A monitor taken to its parts and made from them again, for those who keep it elsewhere.
+// Each part comes by itself: a struct of the five would be a monitor again.
 ghost use Rattle.std.specs.Prelude.{◌≡◌};
 ghost use Rattle.monitor.specs.Calls.{monitor_with};
 

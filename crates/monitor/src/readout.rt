@@ -10,6 +10,7 @@ use switches::Switch;
 
 impl<G: Gauge, S: Switch> Monitor<G, S> {
     // Writes the monitor's line at the front of `out` and answers its length. `LINE_LEN` bytes always suffice.
+    // The text has no type of its own: the library has no heap, and the C interface passes a buffer.
     pub fn readout(&self, out: &mut [u8]) -> Result<usize, Refusal>
         ensures wrote { Wrote (line_of S.Switch.model self.now) out.old result out.new }
         ensures suffices { 64 ≤ length out.old → is_ok result ≡ true }

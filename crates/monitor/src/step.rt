@@ -1,8 +1,10 @@
-ghost use Rattle.std.specs.Prelude.{◌≡◌};
-ghost use Rattle.monitor.specs.Calls.{accepted, step_answer, after_step};
+ghost use Rattle.std.specs.Prelude.{◌≡◌, ◌&&◌};
+ghost use Rattle.control.specs.State.{drives};
+ghost use Rattle.monitor.specs.Calls.{accepted, step_answer, after_step, worked};
 
 use crate::monitor::Monitor;
 use base::{Refusal, TIME_LIMIT};
+use control::State;
 use gauges::Gauge;
 use records::Step;
 use switches::Switch;
@@ -34,11 +36,17 @@ impl<G: Gauge, S: Switch> Monitor<G, S> {
             .next(&self.plate, self.state.mode, &state, reading);
         self.state = state;
         self.switch.tick(step.time);
-        // A held switch stays as it is.
-        if step.power && state.drives() {
-            let _ = self.switch.close();
-        } else {
-            self.switch.open();
-        }
+        work(&mut self.switch, step.power, &state);
+    }
+}
+
+// Closes the switch, held or not, where power is on and the state lets the pump run, and opens it otherwise.
+fn work<S: Switch>(switch: &mut S, power: bool, state: &State)
+    ensures { switch.new ≡ worked S.Switch.model switch.old (power && drives state.now) }
+{
+    if power && state.drives() {
+        let _ = switch.close();
+    } else {
+        switch.open();
     }
 }
