@@ -1,1 +1,2 @@
+pub mod FloatRange
 pub mod Floor

@@ -15,28 +15,22 @@ pub struct Fault {
 #[derive(Clone, Copy, PartialEq, Eq, Debug)]
 pub enum Cause {
     // a word beyond the cell's scale
-    Scale,
+    Scale = 1,
     // the echo is lost
-    Lost,
+    Lost = 2,
     // the gap is out of reach
-    Reach,
+    Reach = 3,
     // two gauges read too far apart
-    Apart,
+    Apart = 4,
     // nothing taken yet
-    Nothing,
+    Nothing = 5,
 }
 
 impl Cause {
     pub fn number(self) -> u8
         ensures { result ≡ cause_number self }
     {
-        match self {
-            Cause::Scale => 1,
-            Cause::Lost => 2,
-            Cause::Reach => 3,
-            Cause::Apart => 4,
-            Cause::Nothing => 5,
-        }
+        self as u8
     }
 }
 

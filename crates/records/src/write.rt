@@ -1,11 +1,12 @@
 ghost use Rattle.std.specs.Prelude.{◌≡◌};
-ghost use Rattle.records.specs.Record.{step_bytes, flag_byte, weight};
+ghost use Rattle.records.specs.Record.{step_bytes, flag_byte};
 ghost use Rattle.records.specs.Writing.{Written};
 
-use crate::step::{MARK_0, MARK_1, RECORD_LEN, Step};
+use crate::step::{MARK, RECORD_LEN, Step};
 use base::{Refusal, TIME_LIMIT};
 
 // Writes the step's record at the front of `out` and answers its length.
+#[tactic(auto, using(crate::proofs::RoundTrip::reads_back))]
 pub fn write_step(step: Step, out: &mut [u8]) -> Result<usize, Refusal>
     ensures { Written step out.old result out.new }
 {
@@ -21,12 +22,11 @@ pub fn write_step(step: Step, out: &mut [u8]) -> Result<usize, Refusal>
 }
 
 // The 19 bytes of a step's record.
-fn record_of(step: Step) -> [u8; 19]
+fn record_of(step: Step) -> [u8; RECORD_LEN]
     ensures { result ≡ step_bytes step }
 {
-    let mut record = [0; 19];
-    record[0] = MARK_0;
-    record[1] = MARK_1;
+    let mut record = [0; RECORD_LEN];
+    record[0..2].copy_from_slice(&MARK);
     record[2] = flags_of(step);
     record[3..11].copy_from_slice(&step.time.to_be_bytes());
     record[11..15].copy_from_slice(&step.a.to_be_bytes());
@@ -38,16 +38,9 @@ fn record_of(step: Step) -> [u8; 19]
 fn flags_of(step: Step) -> u8
     ensures { result ≡ flag_byte step }
 {
-    flag(step.power, 1)
-        + flag(step.reset, 2)
-        + flag(step.self_test, 4)
-        + flag(step.memory_failed, 8)
-        + flag(step.clock_failed, 16)
-}
-
-// A flag's share of the byte: its weight if it is set.
-fn flag(set: bool, of_weight: u8) -> u8
-    ensures { result ≡ weight set of_weight }
-{
-    if set { of_weight } else { 0 }
+    u8::from(step.power)
+        | u8::from(step.reset) << 1
+        | u8::from(step.self_test) << 2
+        | u8::from(step.memory_failed) << 3
+        | u8::from(step.clock_failed) << 4
 }

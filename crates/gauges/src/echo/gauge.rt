@@ -61,10 +61,11 @@ impl Echo {
     }
 }
 
+#[tactic(auto, using(crate::proofs::FloatRange::at_most))]
 fn is_mount(mount: f32) -> bool
     ensures { result ≡ in_mount mount }
 {
-    LOWEST_MOUNT <= mount && mount <= HIGHEST_MOUNT
+    (LOWEST_MOUNT..=HIGHEST_MOUNT).contains(&mount)
 }
 
 fn is_in_range(reading: Reading) -> bool
@@ -79,7 +80,7 @@ fn is_in_range(reading: Reading) -> bool
 impl Gauge for Echo {
     ghost model = { echo };
 
-    ghost in_range = { first_of (Prim.search rules, Prim.grind (arith, Self.row.coded.inj)) };
+    ghost in_range = { Prim.search rules };
 
     fn take(&mut self, a: u32, b: u32) {
         let _ = b;
