@@ -112,10 +112,7 @@ fn rest_is_possible(switch: &Rest<DriveWord>, time: u64) -> bool
 fn opening_is_possible(opening: Option<u64>, last: u64) -> bool
     ensures { result ≡ opening_possible opening last }
 {
-    match opening {
-        None => true,
-        Some(opening) => opening <= last,
-    }
+    opening.is_none_or(|opening| opening <= last)
 }
 
 // An echo gauge has three kinds of fault, and none from a gauge below.

@@ -77,5 +77,6 @@ fn dark_is_possible(state: &State) -> bool
 fn panel_is_possible(plate: &Plate, state: &State, panel: &Panel, reading: Reading) -> bool
     ensures { result ≡ panel_possible plate.now state.now panel.now reading }
 {
-    panel.next(plate, state.mode, state, reading) == *panel
+    let again = panel.next(plate, state.mode, state, reading);
+    again == *panel
 }
