@@ -2,7 +2,9 @@
 use Rattle.std.proofs.Common.{◌≡◌, ℕ, Bool, true, false, eqb, Some, None, Option, sym, refl, ap, ◌∙◌, subst}
 use Rattle.std.proofs.lemmas.Bool.{cond_both, eqb-true, false≢true}
 use Rattle.std.specs.Prelude.{is_some, unwrap_or}
-use Rattle.control.proofs.Plates.{same_plate}
+use mathlib.Core.Bool.{Bool-set}
+use mathlib.Core.HLevel.{is_prop→PathP}
+use Rattle.control.specs.PlateRules.{keeps_rules}
 use Rattle.control.specs.State.{operate, watched}
 use Rattle.control.specs.declared.mode.FailureMode.{FailureMode}
 use Rattle.control.specs.declared.mode.FailureMode.TheVariants.{Allok, Badlevdev, Hardfail}
@@ -12,6 +14,7 @@ use Rattle.control.specs.declared.mode.Signal.{Signal}
 use Rattle.control.specs.declared.mode.Signal.TheVariants as signal
 use Rattle.control.specs.declared.mode.Watchdog.{Watchdog}
 use Rattle.control.specs.declared.mode.Watchdog.TheVariants as watchdog
+use Rattle.control.specs.declared.plate.Plate.{Plate}
 use Rattle.monitor.specs.declared.monitor.Monitor.{Monitor}
 use Rattle.sukepina.specs.Core.{failure_number, failure_of, flag, flag_of, mode_number, mode_of, numbers_of, signal_of, watchdog_of}
 use Rattle.sukepina.specs.declared.core_numbers.Core.{Core}
@@ -103,6 +106,13 @@ watchdog_same n w e =
     cond_both (eqb n 1) _ _ (IsBack watchdog_number n) (λ h. sym (eqb-true n 1 h)) (λ _. tt)))
 
 -- ---- plate, state and panel
+
+-- plates with the same numbers are the same: the ghost field adds nothing
+pub same_plate : (p q : Plate) → p.numbers ≡ q.numbers → p ≡ q
+same_plate p q e = λ i. record {
+  numbers = e i;
+  ok = is_prop→PathP (λ j. keeps_rules (e j) ≡ true) (λ j. Bool-set (keeps_rules (e j)) true) p.ok q.ok i;
+}
 
 module _ (x y : Core) (e : numbers_of x ≡ numbers_of y) where
   state_one : x.state ≡ y.state

@@ -1,5 +1,5 @@
 -- The echo monitor's numbers tell all of what it can be, and calls keep it so.
-use Rattle.std.proofs.Common.{◌≡◌, ℕ, ◌<◌, ◌≤◌, Bool, true, false, ◌&&◌, eqb, ltb, leb, Some, None, Option, sym, refl, ap, ◌∙◌, inl, inr, arith}
+use Rattle.std.proofs.Common.{◌≡◌, ℕ, ◌<◌, ◌≤◌, Bool, true, false, ◌&&◌, eqb, ltb, leb, Some, None, Option, Ok, Err, sym, refl, ap, ◌∙◌, inl, inr, arith}
 use mathlib.Core.Bool.{Bool-set}
 use mathlib.Core.HLevel.{is_prop→PathP}
 use native.Mathlib.Bridge.{le_prop}
@@ -18,14 +18,12 @@ use Rattle.control.specs.declared.state.State.{State}
 use Rattle.display.specs.Panel.{dark_panel}
 use Rattle.gauges.specs.Causes.{cause_number}
 use Rattle.gauges.specs.Echo.{echo}
-use Rattle.gauges.specs.EchoWord.{echo_reading, lost, out_of_reach, word_reading}
+use Rattle.gauges.specs.EchoWord.{echo_reading, gap_reading, lost, out_of_reach}
 use Rattle.gauges.specs.Height.{in_mount}
-use Rattle.gauges.specs.Model.{fresh, is_in_range}
+use Rattle.gauges.specs.Model.{Reading, fresh, is_in_range}
 use Rattle.gauges.specs.declared.echo.Echo.{Echo}
 use Rattle.gauges.specs.declared.reading.Cause.{Cause}
 use Rattle.gauges.specs.declared.reading.Cause.TheVariants.{Scale, Lost, Reach, Apart, Nothing}
-use Rattle.gauges.specs.declared.reading.Reading.{Reading}
-use Rattle.gauges.specs.declared.reading.Reading.TheVariants.{Level, Faulty}
 use Rattle.monitor.specs.Calls.{accepted, gauge_after, monitor_with, set_up, worked}
 use Rattle.records.specs.declared.step.Step.{Step}
 use Rattle.switches.specs.Drive.{drive, word_at}
@@ -85,13 +83,13 @@ cause_one Nothing Scale _ e _ = absurd (false≢true e)
 cause_one Nothing Apart _ e _ = absurd (false≢true e)
 
 reading_one : (r q : Reading) → echo_read r ≡ true → echo_read q ≡ true → fault_number r ≡ fault_number q → level_number r ≡ level_number q → r ≡ q
-reading_one (Level u) (Level v) _ _ _ e = ap Level e
-reading_one (Level u) (Faulty g) _ rq e _ = absurd (no_cause g.cause (and_parts _ _ rq).0 (sym e))
-reading_one (Faulty f) (Level v) rr _ e _ = absurd (no_cause f.cause (and_parts _ _ rr).0 e)
-reading_one (Faulty f) (Faulty g) rr rq e _ =
+reading_one (Ok u) (Ok v) _ _ _ e = ap Ok e
+reading_one (Ok u) (Err g) _ rq e _ = absurd (no_cause g.cause (and_parts _ _ rq).0 (sym e))
+reading_one (Err f) (Ok v) rr _ e _ = absurd (no_cause f.cause (and_parts _ _ rr).0 e)
+reading_one (Err f) (Err g) rr rq e _ =
     let p = and_parts (cause_read f.cause) _ rr in
     let q = and_parts (cause_read g.cause) _ rq in
-    λ i. Faulty (record { cause = cause_one f.cause g.cause p.0 q.0 e i; height = (eqb-true f.height 0 p.1 ∙ sym (eqb-true g.height 0 q.1)) i })
+    λ i. Err (record { cause = cause_one f.cause g.cause p.0 q.0 e i; height = (eqb-true f.height 0 p.1 ∙ sym (eqb-true g.height 0 q.1)) i })
 
 -- ---- numbers and monitors
 
@@ -156,8 +154,8 @@ word_in_16 m can =
 -- what is read once words were taken: never nothing
 taken_possible : (mount : Float) (a : ℕ) (mode : Mode) → gauge_possible (echo_reading mount a) mode ≡ true
 taken_possible mount a mode =
-    cond_both (lost a) _ _ (λ w. gauge_possible (word_reading mount w) mode ≡ true) (λ _. refl) (λ _.
-    cond_both (out_of_reach (of_bits binary32 a) mount) _ _ (λ w. gauge_possible (word_reading mount w) mode ≡ true) (λ _. refl) (λ _. refl))
+    cond_both (lost a) _ _ (λ w. gauge_possible (gap_reading mount w) mode ≡ true) (λ _. refl) (λ _.
+    cond_both (out_of_reach (of_bits binary32 a) mount) _ _ (λ w. gauge_possible (gap_reading mount w) mode ≡ true) (λ _. refl) (λ _. refl))
 
 -- ---- what a step keeps of the switch
 

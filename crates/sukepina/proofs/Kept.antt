@@ -1,5 +1,6 @@
 -- What every accepted step keeps of a monitor's state and panel.
-use Rattle.std.proofs.Common.{◌≡◌, ℕ, ◌-◌, ◌≤◌, Bool, true, false, not, ◌&&◌, ◌||◌, eqb, ltb, leb, List, get_or, sym, refl, ap, arith}
+use Rattle.std.proofs.Common.{◌≡◌, ℕ, ◌-◌, ◌≤◌, Bool, true, false, not, ◌&&◌, ◌||◌, eqb, ltb, leb, List, [], ◌∷◌, sym, refl, ap, arith}
+use mathlib.Core.Bool.{beq}
 use Rattle.std.proofs.lemmas.Bool.{and_parts, and_from, cond_both, false≢true}
 use Rattle.std.proofs.lemmas.Bool.Decides.{nat_tests}
 use Rattle.base.specs.Limits.{time_limit}
@@ -24,7 +25,7 @@ use Rattle.display.specs.Panel.{next_panel}
 use Rattle.display.specs.Warnings.{by_level, entered_from, flashing, in_test, lamp, next_warnings}
 use Rattle.display.specs.declared.panel.Panel.{Panel}
 use Rattle.display.specs.declared.warnings.Warnings.{Warnings}
-use Rattle.gauges.specs.declared.reading.Reading.{Reading}
+use Rattle.gauges.specs.Model.{Reading}
 use Rattle.records.specs.declared.step.Step.{Step}
 use Rattle.sukepina.specs.Possible.{button_possible, dark_possible, implies, panel_possible, reading_possible, same, same_figure, same_warnings, signal_possible, state_possible, times_possible}
 
@@ -32,6 +33,16 @@ abbrev Lit : Mode → Type 0
 Lit m = is m mode.Dark ≡ false
 
 -- ---- the panel
+
+eqb_refl : (n : ℕ) → eqb n n ≡ true
+eqb_refl n = grind (arith, nat_tests)
+
+-- `==` on flags
+pub same_beq : (x y : Bool) → beq x y ≡ same x y
+same_beq true true = refl
+same_beq true false = refl
+same_beq false true = refl
+same_beq false false = refl
 
 same_refl : (b : Bool) → same b b ≡ true
 same_refl true = refl
@@ -46,11 +57,9 @@ lamp_again false false false = refl
 same_warnings_refl : (w : Warnings) → same_warnings w w ≡ true
 same_warnings_refl w = and_from _ _ (same_refl w.high) (and_from _ _ (same_refl w.low) (same_refl w.alarm))
 
-eqb_refl : (n : ℕ) → eqb n n ≡ true
-eqb_refl n = grind (arith, nat_tests)
-
 same_figure_refl : (f : List ℕ) → same_figure f f ≡ true
-same_figure_refl f = and_from _ _ (eqb_refl (get_or f 0 0)) (and_from _ _ (eqb_refl (get_or f 1 0)) (and_from _ _ (eqb_refl (get_or f 2 0)) (eqb_refl (get_or f 3 0))))
+same_figure_refl [] = refl
+same_figure_refl (x ∷ f) = and_from _ _ (eqb_refl x) (same_figure_refl f)
 
 levels_again : (p : Plate) (w : Warnings) (r : Reading) (entered : Bool) → same_warnings (by_level p (by_level p w r entered) r false) (by_level p w r entered) ≡ true
 levels_again p w r entered =

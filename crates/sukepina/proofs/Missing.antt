@@ -2,7 +2,8 @@
 use Rattle.std.proofs.Common.{◌≡◌, ℕ, Bool, true, false, eqb, Some, None, Option, sym, refl, ap, Ok, Err, Result, subst}
 use Rattle.std.proofs.lemmas.Bool.{false≢true}
 use Rattle.std.specs.Prelude.{MatchResult, is_some, unwrap_or}
-use Rattle.std.specs.Result.{result_ok}
+use Rattle.std.specs.Result.{OkIff, result_ok}
+use Rattle.std.proofs.lemmas.Result.{OkIff-at_err}
 use Rattle.std.specs.Bool.{then_some}
 use Rattle.sukepina.specs.Core.{flag}
 use Rattle.sukepina.specs.Maybe.{or_0, there}
@@ -27,3 +28,8 @@ missing_one (Some x) (Some y) t e = ap Some e
 pub ok_is : {A E : Type 0} (P : A → Type 0) (Q : E → Type 0) (r : Result A E) (x : A) → Some x ≡ result_ok r → MatchResult r P Q → P x
 ok_is P Q (Ok y) x e p = subst P (sym (ap (λ o. unwrap_or o y) e)) p
 ok_is P Q (Err why) x e p = absurd (false≢true (sym (ap is_some e)))
+
+-- of a result that is none though it is one just where P holds
+pub none_if : {A E : Type 0} (P : Type 0) (v : A) (r : Result A E) → OkIff r P v → result_ok r ≡ None → P → ⊥
+none_if P v (Ok x) just e p = false≢true (sym (ap is_some e))
+none_if P v (Err why) just e p = OkIff-at_err (Err why) P v why just refl p

@@ -1,5 +1,5 @@
 -- What the calls of the boundary answer and do, over any gauge and any switch.
-use Rattle.std.specs.Prelude.{◌≡◌, ℕ, Bool, Some, None, cond, ◌&&◌, List, ◌++◌, length, drop, Ok, Err, Result, nat_lt}
+use Rattle.std.specs.Prelude.{ℕ, Bool, cond, ◌&&◌, List, ◌++◌, length, drop, Ok, Err, Result, nat_lt}
 use Rattle.base.specs.Refusals.{refusal_number}
 use Rattle.base.specs.declared.refusal.Refusal.{Refusal}
 use Rattle.gauges.specs.Model as gauge
@@ -10,7 +10,6 @@ use Rattle.records.specs.declared.fault.RecordFault.{RecordFault}
 use Rattle.records.specs.declared.step.Step.{Step}
 use Rattle.report.specs.Lines.{Lines, lines_from}
 use Rattle.switches.specs.Model as switch
-use Rattle.sukepina.specs.Boundary.{StandsFor}
 use Rattle.sukepina.specs.declared.call_error.CallError.{CallError}
 use Rattle.sukepina.specs.declared.call_error.CallError.TheVariants.{Refused, NoMonitor}
 use Rattle.sukepina.specs.declared.numbers.StepNumbers.{StepNumbers}
@@ -29,11 +28,6 @@ abbrev pub call_number : Result (Unit {0}) CallError → ℕ
 call_number (Ok done) = 0
 call_number (Err (Refused why)) = refusal_number why
 call_number (Err NoMonitor) = no_monitor
-
--- the monitor that numbers stand for, or else that there is none
-abbrev pub Restored : {N M : Type 0} → (M → N) → (M → Bool) → N → Result M CallError → Type 0
-Restored numbers possible n (Ok m) = StandsFor numbers possible n (Some m)
-Restored numbers possible n (Err why) = (why ≡ NoMonitor) × StandsFor numbers possible n None
 
 -- Step: the step in the numbers, or its refusal.
 abbrev pub told : StepNumbers → Result Step Refusal

@@ -1,5 +1,5 @@
 -- The monitor with an echo gauge, and a rest layer over a drive word, as plain numbers.
-use Rattle.std.specs.Prelude.{◌≡◌, ℕ, Bool, true, false, cond, ◌&&◌, ◌||◌, Some, None, Option, ◌==◌, nat_le, Float}
+use Rattle.std.specs.Prelude.{◌≡◌, ℕ, Bool, true, false, cond, ◌&&◌, ◌||◌, Some, None, Option, Ok, Err, ◌==◌, nat_le, Float}
 use Rattle.control.specs.Modes.{is}
 use Rattle.control.specs.PlateRules.{keeps_rules}
 use Rattle.control.specs.State.{drives}
@@ -11,12 +11,10 @@ use Rattle.control.specs.declared.state.State.{State}
 use Rattle.gauges.specs.Causes.{cause_number}
 use Rattle.gauges.specs.Echo.{echo}
 use Rattle.gauges.specs.Height.{in_mount}
-use Rattle.gauges.specs.Model.{fresh}
+use Rattle.gauges.specs.Model.{Reading, fresh}
 use Rattle.gauges.specs.declared.echo.Echo.{Echo}
 use Rattle.gauges.specs.declared.reading.Cause.{Cause}
 use Rattle.gauges.specs.declared.reading.Cause.TheVariants.{Scale, Lost, Reach, Apart, Nothing}
-use Rattle.gauges.specs.declared.reading.Reading.{Reading}
-use Rattle.gauges.specs.declared.reading.Reading.TheVariants.{Level, Faulty}
 use Rattle.monitor.specs.Calls.{monitor_with, set_up}
 use Rattle.monitor.specs.Promises.{Promises}
 use Rattle.monitor.specs.declared.monitor.Monitor.{Monitor}
@@ -39,12 +37,12 @@ EchoMonitor = Monitor Echo Resting
 
 -- a reading: the cause of its fault, or 0 and its level
 abbrev pub fault_number : Reading → ℕ
-fault_number (Level units) = 0
-fault_number (Faulty f) = cause_number f.cause
+fault_number (Ok units) = 0
+fault_number (Err f) = cause_number f.cause
 
 abbrev pub level_number : Reading → ℕ
-level_number (Level units) = units
-level_number (Faulty f) = 0
+level_number (Ok units) = units
+level_number (Err f) = 0
 
 abbrev pub reading_numbers : Reading → ℕ × ℕ
 reading_numbers r = (fault_number r, level_number r)
@@ -74,8 +72,8 @@ cause_read Apart = false
 cause_read Nothing = true
 
 abbrev pub echo_read : Reading → Bool
-echo_read (Level units) = true
-echo_read (Faulty f) = cause_read f.cause && f.height == 0
+echo_read (Ok units) = true
+echo_read (Err f) = cause_read f.cause && f.height == 0
 
 -- only a dark monitor's gauge took nothing yet
 abbrev pub gauge_possible : Reading → Mode → Bool

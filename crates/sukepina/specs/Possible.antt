@@ -1,5 +1,6 @@
 -- What every run of calls keeps of a monitor. Numbers that break this are no state that a monitor can have.
-use Rattle.std.specs.Prelude.{ℕ, Bool, true, cond, not, ◌&&◌, ◌||◌, List, ◌==◌, nat_le, slice_index}
+use Rattle.std.specs.Prelude.{ℕ, Bool, true, cond, not, ◌&&◌, ◌||◌, List, ◌==◌, nat_le}
+use Rattle.std.specs.Str.{bytes_eq}
 use Rattle.base.specs.Limits.{time_limit}
 use Rattle.control.specs.Modes.{allok, is}
 use Rattle.control.specs.State.{operate, watched}
@@ -11,7 +12,7 @@ use Rattle.control.specs.declared.state.State.{State}
 use Rattle.display.specs.Panel.{next_panel}
 use Rattle.display.specs.declared.panel.Panel.{Panel}
 use Rattle.display.specs.declared.warnings.Warnings.{Warnings}
-use Rattle.gauges.specs.declared.reading.Reading.{Reading}
+use Rattle.gauges.specs.Model.{Reading}
 
 abbrev pub same : Bool → Bool → Bool
 same x y = cond x y (not y)
@@ -41,7 +42,7 @@ abbrev pub same_warnings : Warnings → Warnings → Bool
 same_warnings v w = same v.high w.high && (same v.low w.low && same v.alarm w.alarm)
 
 abbrev pub same_figure : List ℕ → List ℕ → Bool
-same_figure f g = slice_index f 0 == slice_index g 0 && (slice_index f 1 == slice_index g 1 && (slice_index f 2 == slice_index g 2 && slice_index f 3 == slice_index g 3))
+same_figure f g = bytes_eq f g
 
 abbrev pub same_panel : Panel → Panel → Bool
 same_panel d e = same_warnings d.warnings e.warnings && same_figure d.figure e.figure

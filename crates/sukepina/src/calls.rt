@@ -1,19 +1,16 @@
 // The calls of the boundary, on any monitor that is kept as numbers.
 ghost use Rattle.std.specs.Prelude.{◌≡◌};
 ghost use Rattle.monitor.specs.Calls.{after_feed, line_of};
-ghost use Rattle.sukepina.specs.Boundary.{Call, Distinct, StaysPossible};
-ghost use Rattle.sukepina.specs.Calls.{Restored, after_batch, answered, batch, call_number, fed, no_monitor, shown, told, with_step};
+ghost use Rattle.sukepina.specs.Boundary.{Call};
+ghost use Rattle.sukepina.specs.Calls.{after_batch, answered, batch, call_number, fed, no_monitor, shown, told, with_step};
 
 use crate::call_error::CallError;
 use crate::monitor_numbers::MonitorNumbers;
 use crate::numbers::StepNumbers;
 use base::Refusal;
-use monitor::Monitor;
+use display::LINE_LEN;
 use records::Step;
 use report::write_lines;
-
-// Room enough for every line.
-const LINE_ROOM: usize = 64;
 
 // One step.
 pub(crate) fn step<N: MonitorNumbers>(numbers: &mut N, facts: &StepNumbers) -> Result<(), CallError>
@@ -76,7 +73,7 @@ pub(crate) fn lines<N: MonitorNumbers>(
     let Some(mut monitor) = numbers.monitor() else {
         return Err(CallError::NoMonitor);
     };
-    if *place < bytes.len() && out.len() < LINE_ROOM {
+    if *place < bytes.len() && out.len() < LINE_LEN {
         Err(Refusal::Output)?
     }
     let done = write_lines(&mut monitor, bytes, *place, out);

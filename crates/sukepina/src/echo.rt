@@ -1,7 +1,7 @@
 ghost use Rattle.std.specs.Prelude.{◌≡◌};
 ghost use Rattle.sukepina.specs.Boundary.{StandsFor};
 ghost use Rattle.sukepina.specs.Calls.{call_number};
-ghost use Rattle.sukepina.specs.Echo.{EchoMonitor, EchoSetUp, Resting, cause_read, echo_numbers, echo_possible, echo_read, fault_number, gauge_possible, level_number, opening_possible, reading_numbers, rest_possible, switch_possible, word_fits};
+ghost use Rattle.sukepina.specs.Echo.{EchoMonitor, EchoSetUp, Resting, cause_read, echo_numbers, echo_possible, echo_read, fault_number, gauge_possible, opening_possible, reading_numbers, rest_possible, switch_possible, word_fits};
 
 use crate::call_error::CallError;
 use crate::core_numbers::flag_of;
@@ -11,12 +11,7 @@ use crate::possible::is_possible;
 use control::{Mode, Plate, PlateNumbers, State};
 use gauges::{Cause, Echo, Gauge, Reading, fresh_fault};
 use monitor::Monitor;
-use switches::{DriveWord, Rest, RestTime};
-
-// The words that a drive's switch writes.
-const CLOSED_WORD: u16 = 0x00FF;
-
-const OPEN_WORD: u16 = 0xFF00;
+use switches::{CLOSED_WORD, DriveWord, OPEN_WORD, Rest, RestTime};
 
 impl MonitorNumbers for EchoNumbers {
     type G = Echo;
@@ -38,7 +33,7 @@ impl MonitorNumbers for EchoNumbers {
             opened: u32::from(opening.is_some()),
             mount: monitor.gauge().mount(),
             fault: fault_number(reading),
-            level: level_number(reading),
+            level: reading.unwrap_or(0),
             drive: u32::from(switch.below().word()),
         }
     }
@@ -117,10 +112,7 @@ fn rest_is_possible(switch: &Rest<DriveWord>, time: u64) -> bool
 fn opening_is_possible(opening: Option<u64>, last: u64) -> bool
     ensures { result ≡ opening_possible opening last }
 {
-    match opening {
-        None => true,
-        Some(opening) => opening <= last,
-    }
+    opening.is_none_or(|opening| opening <= last)
 }
 
 // An echo gauge has three kinds of fault, and none from a gauge below.
@@ -128,8 +120,8 @@ fn is_echo_reading(reading: Reading) -> bool
     ensures { result ≡ echo_read reading }
 {
     match reading {
-        Reading::Level(_) => true,
-        Reading::Faulty(fault) => is_echo_cause(fault.cause) && fault.height == 0,
+        Ok(_) => true,
+        Err(fault) => is_echo_cause(fault.cause) && fault.height == 0,
     }
 }
 
@@ -147,17 +139,8 @@ fn fault_number(reading: Reading) -> u32
     ensures { result ≡ fault_number reading }
 {
     match reading {
-        Reading::Level(_) => 0,
-        Reading::Faulty(fault) => u32::from(fault.cause.number()),
-    }
-}
-
-fn level_number(reading: Reading) -> u32
-    ensures { result ≡ level_number reading }
-{
-    match reading {
-        Reading::Level(level) => level,
-        Reading::Faulty(_) => 0,
+        Ok(_) => 0,
+        Err(fault) => u32::from(fault.cause.number()),
     }
 }
 
@@ -166,7 +149,7 @@ fn reading_of(fault: u32, level: u32) -> Option<Reading>
     ensures { StandsFor reading_numbers echo_read (fault, level) result }
 {
     match (fault, level) {
-        (0, level) => Some(Reading::Level(level)),
+        (0, level) => Some(Ok(level)),
         (2, 0) => Some(fresh_fault(Cause::Lost)),
         (3, 0) => Some(fresh_fault(Cause::Reach)),
         (5, 0) => Some(fresh_fault(Cause::Nothing)),

@@ -78,15 +78,5 @@ fn panel_is_possible(plate: &Plate, state: &State, panel: &Panel, reading: Readi
     ensures { result ≡ panel_possible plate.now state.now panel.now reading }
 {
     let again = panel.next(plate, state.mode, state, reading);
-    let (new, old) = (again.warnings, panel.warnings);
-    new.high == old.high
-        && new.low == old.low
-        && new.alarm == old.alarm
-        && same_figure(again.figure, panel.figure)
-}
-
-fn same_figure(f: [u8; 4], g: [u8; 4]) -> bool
-    ensures { result ≡ same_figure f g }
-{
-    f[0] == g[0] && f[1] == g[1] && f[2] == g[2] && f[3] == g[3]
+    again == *panel
 }

@@ -1,6 +1,6 @@
 use Rattle.std.proofs.Common.{◌≡◌, false, sym, refl, ap, ◌∙◌, subst}
 use Rattle.std.proofs.lemmas.Bool.{false≢true}
-use Rattle.control.proofs.Plates.{same_plate}
+use Rattle.sukepina.proofs.Cores.{same_plate}
 use Rattle.gauges.specs.Cell.{cell, nothing_taken}
 use Rattle.control.specs.declared.plate.Plate.{Plate}
 use Rattle.monitor.specs.Calls.{set_up}

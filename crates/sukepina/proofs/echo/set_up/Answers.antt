@@ -1,6 +1,6 @@
 use Rattle.std.proofs.Common.{◌≡◌, sym, refl, ap, ◌∙◌, subst}
 use Rattle.std.proofs.lemmas.Bool.{and_from, false≢true, le-leb}
-use Rattle.control.proofs.Plates.{same_plate}
+use Rattle.sukepina.proofs.Cores.{same_plate}
 use Rattle.control.specs.declared.plate.Plate.{Plate}
 use Rattle.gauges.specs.Echo.{echo}
 use Rattle.gauges.specs.declared.echo.Echo.{Echo}

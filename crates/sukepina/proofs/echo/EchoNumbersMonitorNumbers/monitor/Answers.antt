@@ -5,7 +5,7 @@ use Rattle.switches.specs.Drive.{word_at}
 use Rattle.switches.specs.Rest.{rest_with}
 use Rattle.sukepina.proofs.Cores.{core_of}
 use Rattle.sukepina.proofs.Echoes.{echo_made, echo_one, echo_reads, word_in_16}
-use Rattle.sukepina.proofs.Missing.{ok_is}
+use Rattle.sukepina.proofs.Missing.{none_if, ok_is}
 use Rattle.sukepina.proofs.Serving.{none_possible, none_stands}
 use Rattle.sukepina.proofs.echo.EchoNumbersMonitorNumbers.monitor.Goals as goal
 use Rattle.sukepina.specs.Echo.{echo_numbers, echo_possible, echo_read, reading_numbers}
@@ -23,7 +23,7 @@ returns-in_err-reading_of c =
 pub returns-in_err-ok : goal.returns-in_err-ok
 returns-in_err-ok c =
     none_stands echo_numbers echo_possible _
-    (λ m can e. let small : c.args.self.now.drive < 65536 = subst (λ w. w < 65536) (ap (λ n. n.drive) e) (word_in_16 m can) in search rules)
+    (λ m can e. let small : c.args.self.now.drive < 65536 = subst (λ w. w < 65536) (ap (λ n. n.drive) e) (word_in_16 m can) in none_if _ _ c.try_from.result c.try_from.ensures (sym c.ok-2.ensures.value ∙ c.in_err-ok.was) small)
     _ c.from_residual-in_err-ok.ensures
 
 pub returns-then-not-is_echo_possible : goal.returns-then-not-is_echo_possible
