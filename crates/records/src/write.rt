@@ -13,11 +13,10 @@ pub fn write_step(step: Step, out: &mut [u8]) -> Result<usize, Refusal>
     if step.time > TIME_LIMIT {
         return Err(Refusal::Time);
     }
-    if out.len() < RECORD_LEN {
+    let Some(front) = out.first_chunk_mut::<RECORD_LEN>() else {
         return Err(Refusal::Output);
-    }
-    let bytes = record_of(step);
-    out[0..RECORD_LEN].copy_from_slice(&bytes);
+    };
+    *front = record_of(step);
     Ok(RECORD_LEN)
 }
 
