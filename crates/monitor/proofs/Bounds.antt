@@ -1,5 +1,5 @@
 -- Lower bounds on the times of the newest steps that are amiss, or out of limits and not settled since.
-use Rattle.std.proofs.Common.{Ok, Err, ◌≡◌, ℕ, ◌+◌, ◌≤◌, Bool, true, false, not, ◌&&◌, List, [], ◌∷◌, arith}
+use Rattle.std.proofs.Common.{◌≡◌, ℕ, ◌+◌, ◌≤◌, Bool, true, false, not, ◌&&◌, List, [], ◌∷◌, Ok, Err, arith}
 use Rattle.control.specs.Plate.{out_of_limits}
 use Rattle.control.specs.Plate as plate
 use Rattle.control.specs.declared.plate.Plate.{Plate}

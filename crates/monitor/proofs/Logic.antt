@@ -1,5 +1,5 @@
 -- Facts about tests alone, over variables.
-use Rattle.std.proofs.Common.{Ok, Err, is_err, ◌≡◌, Bool, true, false, cond, not, ◌&&◌, ◌||◌, refl, arith}
+use Rattle.std.proofs.Common.{◌≡◌, Bool, true, false, cond, not, ◌&&◌, ◌||◌, Ok, Err, is_err, refl, arith}
 use Rattle.control.specs.Modes.{allok}
 use Rattle.control.specs.Plate.{past_mark}
 use Rattle.control.specs.State.{watched}

@@ -1,5 +1,5 @@
 -- The edges of the rules, one row each: on both sides of a limit, the definitions give these values.
-use Rattle.std.specs.Prelude.{Ok, Err, ℕ, Bool, true, false, not, ◌&&◌, List, [], ◌∷◌, ◌==◌, from_bits}
+use Rattle.std.specs.Prelude.{ℕ, Bool, true, false, not, ◌&&◌, List, [], ◌∷◌, Ok, Err, ◌==◌, from_bits}
 use Rattle.std.specs.Float.{binary32}
 use Rattle.control.specs.Modes.{is}
 use Rattle.control.specs.Plate.{out_of_limits, past_mark, settled, standard}
