@@ -54,7 +54,7 @@ fn middle(x: u32, y: u32) -> Reading
     if x.abs_diff(y) > WIDEST_GAP {
         return fresh_fault(Cause::Apart);
     }
-    Ok(((x as u64 + y as u64) / 2) as u32)
+    Ok(x.midpoint(y))
 }
 
 // A fault passed on, one higher, 255 at most.

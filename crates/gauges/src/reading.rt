@@ -1,6 +1,9 @@
-ghost use Rattle.std.specs.Prelude.{◌≡◌};
-ghost use Rattle.gauges.specs.Causes.{cause_number};
+ghost use Rattle.std.specs.Prelude.{◌≡◌, Some};
+ghost use Rattle.gauges.specs.Causes.{cause_number, cause_text, fault_text};
 ghost use Rattle.gauges.specs.Model.{arisen, fresh};
+
+use std::error::Error;
+use std::fmt;
 
 // What a gauge reads: a level in units of 0.00001 cm, or a fault.
 pub type Reading = Result<u32, Fault>;
@@ -33,6 +36,30 @@ impl Cause {
         self as u8
     }
 }
+
+impl fmt::Display for Cause {
+    ghost output = { λ cause. Some (cause_text cause) };
+
+    fn fmt<W: fmt::Write>(&self, f: &mut fmt::Formatter<W>) -> fmt::Result {
+        f.write_str(match self {
+            Cause::Scale => "a word beyond the scale",
+            Cause::Lost => "the echo is lost",
+            Cause::Reach => "the gap is out of reach",
+            Cause::Apart => "two gauges read too far apart",
+            Cause::Nothing => "nothing taken yet",
+        })
+    }
+}
+
+impl fmt::Display for Fault {
+    ghost output = { λ fault. Some (fault_text fault) };
+
+    fn fmt<W: fmt::Write>(&self, f: &mut fmt::Formatter<W>) -> fmt::Result {
+        write!(f, "{} (height {})", self.cause, self.height)
+    }
+}
+
+impl Error for Fault {}
 
 // A cause makes a fault where it arises, at height 0.
 impl From<Cause> for Fault {

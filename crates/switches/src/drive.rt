@@ -29,8 +29,7 @@ impl DriveWord {
     pub fn word(&self) -> u16
         ensures { result ≡ self.now.word }
     {
-        let DriveWord { word } = *self;
-        word
+        self.word
     }
 }
 
