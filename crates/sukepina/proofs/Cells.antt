@@ -1,5 +1,5 @@
 -- The cell monitor's numbers tell all of it, and every monitor's numbers fit.
-use Rattle.std.proofs.Common.{◌≡◌, Bool, true, false, ◌&&◌, eqb, leb, Some, sym, refl, ap, ◌∙◌}
+use Rattle.std.proofs.Common.{◌≡◌, Bool, true, false, ◌&&◌, eqb, leb, Some, refl, ap, ◌∙◌}
 use Rattle.std.proofs.lemmas.Bool.{and_parts, and_from}
 use Rattle.base.specs.Limits.{time_limit}
 use Rattle.std.specs.Bool.{then_some}

@@ -1,10 +1,10 @@
 -- The echo monitor's numbers tell all of what it can be, and calls keep it so.
-use Rattle.std.proofs.Common.{◌≡◌, ℕ, ◌<◌, ◌≤◌, Bool, true, false, ◌&&◌, eqb, ltb, leb, Some, None, Option, Ok, Err, sym, refl, ap, ◌∙◌, inl, inr, arith}
+use Rattle.std.proofs.Common.{◌≡◌, ℕ, ◌<◌, ◌≤◌, Bool, true, false, ◌&&◌, eqb, ltb, leb, Some, None, Option, Ok, Err, sym, refl, ap, ◌∙◌, arith}
 use mathlib.Core.Bool.{Bool-set}
 use mathlib.Core.HLevel.{is_prop→PathP}
 use native.Mathlib.Bridge.{le_prop}
 use lib.Ieee.{Float, binary32, of_bits}
-use Rattle.std.proofs.lemmas.Bool.{and_parts, and_from, cases_Bool, cond_both, eqb-true, false≢true}
+use Rattle.std.proofs.lemmas.Bool.{and_parts, and_from, cond_both, eqb-true, false≢true}
 use Rattle.std.proofs.lemmas.Bool.Decides.{nat_tests}
 use Rattle.std.specs.Bool.{then_some}
 use Rattle.base.specs.Limits.{time_limit}
@@ -33,7 +33,7 @@ use Rattle.switches.specs.declared.rest_time.RestTime.{RestTime}
 use Rattle.sukepina.proofs.Cores.{core_of, core_one, flag_same}
 use Rattle.sukepina.proofs.Kept.{implies_true, panel_kept, powered, reading_kept, state_kept}
 use Rattle.sukepina.proofs.Missing.{missing_one, there_flag}
-use Rattle.sukepina.specs.Echo.{EchoMonitor, Resting, cause_read, echo_numbers, echo_possible, echo_read, fault_number, gauge_possible, level_number, opening_possible, reading_numbers, rest_possible, switch_possible, word_fits}
+use Rattle.sukepina.specs.Echo.{EchoMonitor, Resting, cause_read, echo_numbers, echo_possible, echo_read, fault_number, gauge_possible, level_number, opening_possible, reading_numbers, rest_possible, switch_possible}
 use Rattle.sukepina.specs.declared.core_numbers.Core.{Core}
 use Rattle.sukepina.specs.declared.numbers.EchoNumbers.{EchoNumbers}
 use Rattle.sukepina.specs.Core.{flag_of, numbers_of}

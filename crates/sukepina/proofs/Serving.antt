@@ -1,7 +1,6 @@
 -- A call served, and a call refused because no monitor can have the numbers.
-use Rattle.std.proofs.Common.{◌≡◌, Bool, true, false, Some, None, Option, sym, refl, ap, ◌∙◌, subst}
+use Rattle.std.proofs.Common.{◌≡◌, Bool, true, false, None, Option, sym, refl, ap, ◌∙◌, subst}
 use Rattle.std.proofs.lemmas.Bool.{false_from_ne_true, false≢true}
-use Rattle.std.specs.Bool.{then_some}
 use Rattle.sukepina.specs.Boundary.{Call, StandsFor}
 
 -- ---- what numbers stand for

@@ -1,14 +1,14 @@
 -- The monitor with a pressure cell and a direct contact, as plain numbers.
-use Rattle.std.specs.Prelude.{◌≡◌, ℕ, Bool, true, false, ◌&&◌, Some, None, Option, ◌==◌}
+use Rattle.std.specs.Prelude.{◌≡◌, ℕ, Bool, false, ◌&&◌, ◌==◌}
 use Rattle.control.specs.Modes.{is}
 use Rattle.control.specs.PlateRules.{keeps_rules}
 use Rattle.control.specs.State.{drives}
 use Rattle.control.specs.declared.mode.Mode.TheVariants.{Dark}
 use Rattle.control.specs.declared.plate.Plate.{Plate}
 use Rattle.control.specs.declared.plate_numbers.PlateNumbers.{PlateNumbers}
-use Rattle.gauges.specs.Cell.{cell, last_took, nothing_taken}
+use Rattle.gauges.specs.Cell.{cell, nothing_taken}
 use Rattle.gauges.specs.declared.cell.Cell.{Cell}
-use Rattle.monitor.specs.Calls.{monitor_with, set_up}
+use Rattle.monitor.specs.Calls.{set_up}
 use Rattle.monitor.specs.Promises.{Promises}
 use Rattle.monitor.specs.declared.monitor.Monitor.{Monitor}
 use Rattle.switches.specs.Direct.{contact_at, direct}

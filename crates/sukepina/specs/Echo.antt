@@ -1,5 +1,5 @@
 -- The monitor with an echo gauge, and a rest layer over a drive word, as plain numbers.
-use Rattle.std.specs.Prelude.{◌≡◌, ℕ, Bool, true, false, cond, ◌&&◌, ◌||◌, Some, None, Option, Ok, Err, ◌==◌, nat_le, Float}
+use Rattle.std.specs.Prelude.{◌≡◌, ℕ, Bool, true, false, ◌&&◌, ◌||◌, Some, None, Option, Ok, Err, ◌==◌, nat_le, Float}
 use Rattle.control.specs.Modes.{is}
 use Rattle.control.specs.PlateRules.{keeps_rules}
 use Rattle.control.specs.State.{drives}
@@ -15,11 +15,11 @@ use Rattle.gauges.specs.Model.{Reading, fresh}
 use Rattle.gauges.specs.declared.echo.Echo.{Echo}
 use Rattle.gauges.specs.declared.reading.Cause.{Cause}
 use Rattle.gauges.specs.declared.reading.Cause.TheVariants.{Scale, Lost, Reach, Apart, Nothing}
-use Rattle.monitor.specs.Calls.{monitor_with, set_up}
+use Rattle.monitor.specs.Calls.{set_up}
 use Rattle.monitor.specs.Promises.{Promises}
 use Rattle.monitor.specs.declared.monitor.Monitor.{Monitor}
 use Rattle.switches.specs.Drive.{drive, word_at}
-use Rattle.switches.specs.Rest.{new_rest, rest_with, resting}
+use Rattle.switches.specs.Rest.{new_rest, resting}
 use Rattle.switches.specs.declared.drive.DriveWord.{DriveWord}
 use Rattle.switches.specs.declared.rest.Rest.{Rest}
 use Rattle.switches.specs.declared.rest_time.RestTime.{RestTime}

@@ -1,4 +1,5 @@
-// The calls of the boundary, on any monitor that is kept as numbers.
+// The calls of the boundary, on any monitor that is kept as numbers. Each reads the monitor by `let .. else`, since
+// `ok_or` and `?` would copy it once more.
 ghost use Rattle.std.specs.Prelude.{◌≡◌};
 ghost use Rattle.monitor.specs.Calls.{after_feed, line_of};
 ghost use Rattle.sukepina.specs.Boundary.{Call};

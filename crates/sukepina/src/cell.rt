@@ -14,6 +14,7 @@ use switches::{DirectContact, Switch};
 
 impl MonitorNumbers for CellNumbers {
     type G = Cell;
+
     type S = DirectContact;
 
     ghost numbers = { cell_numbers };
@@ -30,6 +31,7 @@ impl MonitorNumbers for CellNumbers {
         }
     }
 
+    // Taken in whole by each call, and ended by an `if`: what hands the monitor on copies it.
     #[inline(always)]
     fn monitor(&self) -> Option<Monitor<Cell, DirectContact>> {
         let core = self.core.parts()?;

@@ -38,7 +38,7 @@ impl CoreNumbers {
         }
     }
 
-    // The parts that have these numbers, or none if there are none.
+    // The parts that have these numbers, or none if there are none. Taken in whole by each call, as `monitor` is.
     #[inline(always)]
     pub(crate) fn parts(&self) -> Option<Core>
         ensures { StandsFor numbers_of every self.now result }
@@ -74,8 +74,8 @@ impl CoreNumbers {
     }
 }
 
-// The numbers of C for what `control` knows by name, and back. No `From` or `TryFrom` can stand here, since the types are
-// that crate's; and they are written out, so that C's numbers do not follow the order of its variants.
+// C's numbers for what `control` knows by name, and back. Functions, since its types can have no `From` or `TryFrom`
+// here; written out, so that C's numbers do not follow the order of its variants.
 
 fn mode_number(mode: Mode) -> u32
     ensures { result ≡ mode_number mode }

@@ -15,6 +15,7 @@ use switches::{CLOSED_WORD, DriveWord, OPEN_WORD, Rest, RestTime};
 
 impl MonitorNumbers for EchoNumbers {
     type G = Echo;
+
     type S = Rest<DriveWord>;
 
     ghost numbers = { echo_numbers };
@@ -38,6 +39,7 @@ impl MonitorNumbers for EchoNumbers {
         }
     }
 
+    // Taken in whole by each call, and ended by an `if`: what hands the monitor on copies it.
     #[inline(always)]
     fn monitor(&self) -> Option<Monitor<Echo, Rest<DriveWord>>> {
         let core = self.core.parts()?;

@@ -10,6 +10,7 @@ use switches::Switch;
 // keeps of a monitor is for the implementer to say.
 pub(crate) trait MonitorNumbers: Copy {
     type G: Gauge + Drop;
+
     type S: Switch + Drop;
 
     ghost numbers: { Monitor Self.G Self.S → Self };

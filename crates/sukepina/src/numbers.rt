@@ -1,5 +1,6 @@
 // The numbers that cross to C. None of these types has an invariant, since nothing holds C to one: a yes or
-// no is 0 or 1 in 32 bits, and whether the numbers make sense is looked at in every call.
+// no is 0 or 1 in 32 bits, and whether the numbers make sense is looked at in every call. C has no `Option` and no
+// `Result`: a number that may be missing stands beside its flag, and a level beside its fault.
 use control::PlateNumbers;
 
 // One step; `facts` has the five flags of a step record.

@@ -8,13 +8,9 @@ use control::{Button, FailureMode, Mode, Plate, Signal, State, Watchdog};
 use display::Panel;
 use gauges::Reading;
 
+// Taken in whole by each call, as `monitor` is.
 #[inline(always)]
-pub(crate) fn is_possible(
-    plate: &Plate,
-    state: &State,
-    panel: &Panel,
-    reading: Reading,
-) -> bool
+pub(crate) fn is_possible(plate: &Plate, state: &State, panel: &Panel, reading: Reading) -> bool
     ensures { result ≡ core_possible plate.now state.now panel.now reading }
 {
     state_is_possible(state)

@@ -2,7 +2,7 @@ use Rattle.std.proofs.Common.{ap, sym, ◌∙◌, rules}
 use Rattle.sukepina.proofs.Serving.{served_call}
 use Rattle.sukepina.proofs.Steps.{feed_kept, unfed}
 use Rattle.sukepina.proofs.calls.feed.Goals as goal
-use Rattle.sukepina.specs.Calls.{call_number, placed}
+use Rattle.sukepina.specs.Calls.{placed}
 
 pub returns-in_err-place : goal.returns-in_err-place
 returns-in_err-place g c =

@@ -1,4 +1,4 @@
-use Rattle.std.proofs.Common.{ap, ◌∙◌, rules}
+use Rattle.std.proofs.Common.{rules}
 use Rattle.sukepina.proofs.Serving.{served_call}
 use Rattle.sukepina.proofs.Steps.{batch_kept}
 use Rattle.sukepina.proofs.calls.lines.Goals as goal

@@ -1,4 +1,4 @@
-use Rattle.std.proofs.Common.{◌≡◌, ◌&&◌, sym, ap, ◌∙◌}
+use Rattle.std.proofs.Common.{◌&&◌, ap, ◌∙◌}
 use Rattle.sukepina.proofs.Kept.{same_beq}
 use Rattle.sukepina.proofs.possible.panel_is_possible.Goals as goal
 use Rattle.sukepina.specs.Possible.{same_figure, same_panel}
