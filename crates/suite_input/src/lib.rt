@@ -7,6 +7,9 @@ ghost use Rattle.suite_input.specs.Words.{bit, word_at};
 use std::alloc::Global;
 use std::io::{self, Read};
 
+#[cfg(test)]
+mod tests;
+
 // All that a reader has left.
 pub fn read_all<R: Read + Drop>(heap: Global, mut reader: R) -> io::Result<Vec<u8>>
     ensures { IfOk result (λ v. IfSome (R.remaining reader) (λ bytes. v.items ≡ bytes)) }
