@@ -53,6 +53,7 @@ impl Echo {
     }
 
     // What the gauge reads at word `a`.
+    #[tactic(auto, using(crate::specs::EchoRange::height_in))]
     fn reading_at(&self, a: u32) -> Reading
         ensures { result ≡ echo_reading self.now.mount a }
     {
