@@ -83,6 +83,7 @@ impl Gauge for Echo {
 
     ghost in_range = { Prim.search rules };
 
+    #[tactic(auto, using(crate::specs::EchoRange::echo_in_range))]
     fn take(&mut self, a: u32, b: u32) {
         let _ = b;
         self.last = self.reading_at(a);
