@@ -1,2 +1,3 @@
 pub mod FloatRange
 pub mod Floor
+pub mod Word

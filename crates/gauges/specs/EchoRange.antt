@@ -13,15 +13,13 @@ use Rattle.std.specs.Float.Ieee.Nearest.{div_mono}
 use Rattle.std.specs.Float.Ieee.Order.{round_mono}
 use Rattle.std.specs.Float.Ieee.Positive.{num, den, den_pos, positive, between, le→cross}
 use Rattle.std.specs.Float.Ieee.Scale.{finite}
+use Rattle.std.proofs.lemmas.Float.{T_from_true}
 use Rattle.std.proofs.lemmas.Bool.{and_parts, and_from, cond-false, eqb-true, false≢true, le-leb, le-ltb, ltb-false, ltb-true, or_cases, or_parts}
 use Rattle.base.specs.Limits.{level_limit}
 use Rattle.gauges.specs.declared.reading.Cause.TheVariants.{Lost, Reach}
 use Rattle.gauges.specs.EchoWord.{echo_reading, gap_reading, lost, out_of_reach}
 use Rattle.gauges.specs.Height.{cm_1, cm_100, in_height, in_mount, units}
 use Rattle.gauges.specs.Model.{is_in_range}
-
-pub holds : (b : Bool) → b ≡ true → T b
-holds b e = subst T (sym e) tt
 
 -- ---- a height's size is at most 100, so its units are at most 10,000,000
 
@@ -109,11 +107,11 @@ lowered (fin false m e) (fin t n d) p top q r = less m n e d (omega arith) t r
 mount_positive : (mount : Float) → in_mount mount ≡ true → T (positive mount)
 unfolding of_bits
 mount_positive mount h =
-    let b = and_parts _ _ h in between cm_1 mount cm_100 tt tt (holds _ b.0) (holds _ b.1)
+    let b = and_parts _ _ h in between cm_1 mount cm_100 tt tt (T_from_true _ b.0) (T_from_true _ b.1)
 
 mount_at_most_100 : (mount : Float) → in_mount mount ≡ true → num mount * 1 ≤ 100 * den mount
 unfolding of_bits
-mount_at_most_100 mount h = le→cross mount cm_100 (mount_positive mount h) tt (holds _ (and_parts _ _ h).1)
+mount_at_most_100 mount h = le→cross mount cm_100 (mount_positive mount h) tt (T_from_true _ (and_parts _ _ h).1)
 
 pub height_in : (mount : Float) (a : ℕ) → in_mount mount ≡ true → lost a ≡ false → out_of_reach (of_bits binary32 a) mount ≡ false
     → in_height (sub binary32 mount (of_bits binary32 a)) ≡ true

@@ -53,6 +53,7 @@ impl Echo {
     }
 
     // What the gauge reads at word `a`.
+    #[tactic(auto, using(crate::specs::EchoRange::height_in))]
     fn reading_at(&self, a: u32) -> Reading
         ensures { result ≡ echo_reading self.now.mount a }
     {
@@ -82,6 +83,7 @@ impl Gauge for Echo {
 
     ghost in_range = { Prim.search rules };
 
+    #[tactic(auto, using(crate::specs::EchoRange::echo_in_range))]
     fn take(&mut self, a: u32, b: u32) {
         let _ = b;
         self.last = self.reading_at(a);

@@ -11,6 +11,7 @@ pub(crate) const EXPONENTS: u32 = 0x100;
 const ALL_ONES: u32 = 0xff;
 
 // The gap in cm that word A, a bit pattern of an `f32`, gives: from 0 to the mount height.
+#[tactic(auto, using(crate::proofs::Word::no_nan))]
 pub(crate) fn gap_at(a: u32, mount: f32) -> Result<f32, Cause>
     ensures { result ≡ gap_at a mount }
 {
