@@ -2,9 +2,10 @@
 use Rattle.std.proofs.Common.{◌≡◌, ℕ, zero, suc, ◌+◌, ◌-◌, ◌*◌, ◌/◌, ◌%◌, ◌^◌, ◌<◌, ◌≤◌, Bool, true, false, cond, T, eqb, leb, sym, ap, ◌∙◌, subst, le-add_right, mul-le-mul_right, mod-lt, mul_assoc, lt_of_not-le, mul_right_comm, le_of_mul-le-mul_right, arith, lit<, lit≤, pow_pos, pow_mono, pow-add}
 use native.Mathlib.Nat.{div-eq_of_lt, eq_of_mul-eq-mul_right}
 use lib.Pow.{field}
-use lib.Ieee.{Float, nan, inf, fin, binary32, fits, of_bits, of_fields, odd, to_bits}
+use lib.Ieee.{Float, nan, inf, fin, binary32, fits, of_bits, of_fields, odd, to_bits, sub}
 use lib.Ieee.Bits.{of_bits-to_bits}
 use lib.Ieee.Digits.{Equals, back, odd_val}
+use lib.Ieee.Fits.{sub-fits}
 use lib.Ieee.Nearest.{div_same}
 use lib.Ieee.Positive.{num, den, den_pos}
 use lib.Ieee.Scale.{finite}
@@ -97,3 +98,6 @@ floor h f e =
     let same : of_bits binary32 b ≡ h = of_bits-to_bits binary32 h f in
     subst (λ v. Floor v (b / 8388608 % 256) (b % 8388608)) same
     (subst (λ (x : ℕ). Floor (of_bits binary32 b) x (b % 8388608)) (field b 8 23) (bits_floor b (subst (λ v. in_height v ≡ true) (sym same) e)))
+
+pub level_floor : (mount gap : Float) → in_height (sub binary32 mount gap) ≡ true → let h = sub binary32 mount gap in Floor h (to_bits binary32 h / 8388608 % 256) (to_bits binary32 h % 8388608)
+level_floor mount gap ok = floor (sub binary32 mount gap) (sub-fits binary32 mount gap) ok

@@ -15,6 +15,7 @@ const LAST_SHIFT: u32 = 40;
 
 // The level at a gap in reach. The difference is rounded once, to an `f32`; its exact value in
 // units is rounded down, over whole numbers, from its bits.
+#[tactic(auto, using(crate::proofs::Floor::level_floor, crate::specs::EchoRange::units_limit))]
 pub(crate) fn level(mount: f32, gap: f32) -> u32
     requires { in_height (sub binary32 mount gap) ≡ true }
     ensures { result ≡ units (sub binary32 mount gap) }
