@@ -1,10 +1,9 @@
 -- From the contracts of the calls to the promises. Nothing that the monitor does is unfolded.
-use Rattle.std.proofs.Common.{◌≡◌, ℕ, ◌+◌, ◌<◌, ◌≤◌, List, [], ◌∷◌, length, get_or, take, sym, refl, ap, ◌∙◌}
+use Rattle.std.proofs.Common.{◌≡◌, ℕ, ◌≤◌, List, [], ◌∷◌, length, take, sym, refl, ap, ◌∙◌}
 use Rattle.std.proofs.lemmas.List.{take_all}
-use Rattle.std.proofs.lemmas.List.Sums.{fold_more}
 use Rattle.control.specs.declared.plate.Plate.{Plate}
 use Rattle.gauges.specs.Model as gauge
-use Rattle.monitor.specs.History.{Call, after_call, after_calls, step}
+use Rattle.monitor.specs.History.{Call, after_call, after_calls}
 use Rattle.monitor.specs.Promises.{Promises}
 use Rattle.monitor.specs.declared.monitor.Monitor.{Monitor}
 use Rattle.records.specs.declared.step.Step.{Step}
@@ -24,13 +23,7 @@ module _ {G S : Type 0} {gm : gauge.Model G} {sm : switch.Model S} {p : Plate} {
     opens = λ bad. ap (λ x. sm.contact x.switch) r.reached ∙ r.promises.opens cs bad;
   }
 
--- a list of steps, told one after the other: the next one, and the end
+-- a list of steps, all told one after the other
 module _ {G S : Type 0} (gm : gauge.Model G) (sm : switch.Model S) (start m : Monitor G S) (ss : List Step) (i : ℕ) where
-  pub told_more : (d : Step) (n : Monitor G S) → i < length ss → n ≡ after_call gm sm m (step (get_or ss i d)) → m ≡ after_calls gm sm start (told (take i ss)) → n ≡ after_calls gm sm start (told (take (i + 1) ss))
-  told_more d n here e before =
-      e
-      ∙ ap (λ x. after_call gm sm x (step (get_or ss i d))) before
-      ∙ ap (after_calls gm sm start) (sym (fold_more (λ cs s. step s ∷ cs) [] ss i d here))
-
   pub told_all : length ss ≤ i → m ≡ after_calls gm sm start (told (take i ss)) → m ≡ after_calls gm sm start (told ss)
   told_all done before = before ∙ ap (λ l. after_calls gm sm start (told l)) (take_all i ss done)
