@@ -16,7 +16,7 @@ use Rattle.control.specs.declared.mode.Watchdog.{Watchdog}
 use Rattle.control.specs.declared.mode.Watchdog.TheVariants as watchdog
 use Rattle.control.specs.declared.plate.Plate.{Plate}
 use Rattle.monitor.specs.declared.monitor.Monitor.{Monitor}
-use Rattle.sukepina.specs.Core.{failure_number, failure_of, flag, flag_of, mode_number, mode_of, numbers_of, signal_of, watchdog_of}
+use Rattle.sukepina.specs.Core.{either, failure_number, failure_of, flag, flag_of, mode_number, mode_of, numbers_of, signal_of, watchdog_of}
 use Rattle.sukepina.specs.declared.core_numbers.Core.{Core}
 use Rattle.sukepina.specs.declared.numbers.CoreNumbers.{CoreNumbers}
 
@@ -34,6 +34,14 @@ abbrev IsBack : {A : Type 0} → (A → ℕ) → ℕ → Option A → Type 0
 IsBack number n (Some x) = number x ≡ n
 IsBack number n None = Unit {0}
 
+-- ---- one of two values
+
+either_same : {A : Type 0} (number : A → ℕ) (x y : A) → number x ≡ 0 → number y ≡ 1 → (n : ℕ) (z : A) → either x y n ≡ Some z → number z ≡ n
+either_same number x y zero one n z e =
+    subst (IsBack number n) e
+    (cond_both (eqb n 0) _ _ (IsBack number n) (λ h. zero ∙ sym (eqb-true n 0 h)) (λ _.
+    cond_both (eqb n 1) _ _ (IsBack number n) (λ h. one ∙ sym (eqb-true n 1 h)) (λ _. tt)))
+
 -- ---- yes or no
 
 pub flag_back : (b : Bool) → flag_of (flag b) ≡ Some b
@@ -41,10 +49,7 @@ flag_back true = refl
 flag_back false = refl
 
 pub flag_same : (n : ℕ) (b : Bool) → flag_of n ≡ Some b → flag b ≡ n
-flag_same n b e =
-    subst (IsBack flag n) e
-    (cond_both (eqb n 0) _ _ (IsBack flag n) (λ h. sym (eqb-true n 0 h)) (λ _.
-    cond_both (eqb n 1) _ _ (IsBack flag n) (λ h. sym (eqb-true n 1 h)) (λ _. tt)))
+flag_same = either_same flag false true refl refl
 
 pub flag_one : (b c : Bool) → flag b ≡ flag c → b ≡ c
 flag_one = one_has flag flag_of flag_back
@@ -87,10 +92,7 @@ signal_back signal.Shutdown = refl
 signal_back signal.Operate = refl
 
 pub signal_same : (n : ℕ) (s : Signal) → signal_of n ≡ Some s → signal_number s ≡ n
-signal_same n s e =
-    subst (IsBack signal_number n) e
-    (cond_both (eqb n 0) _ _ (IsBack signal_number n) (λ h. sym (eqb-true n 0 h)) (λ _.
-    cond_both (eqb n 1) _ _ (IsBack signal_number n) (λ h. sym (eqb-true n 1 h)) (λ _. tt)))
+signal_same = either_same signal_number signal.Shutdown signal.Operate refl refl
 
 abbrev pub watchdog_number : Watchdog → ℕ
 watchdog_number w = flag (watched w)
@@ -100,10 +102,7 @@ watchdog_back watchdog.Shut = refl
 watchdog_back watchdog.Operate = refl
 
 pub watchdog_same : (n : ℕ) (w : Watchdog) → watchdog_of n ≡ Some w → watchdog_number w ≡ n
-watchdog_same n w e =
-    subst (IsBack watchdog_number n) e
-    (cond_both (eqb n 0) _ _ (IsBack watchdog_number n) (λ h. sym (eqb-true n 0 h)) (λ _.
-    cond_both (eqb n 1) _ _ (IsBack watchdog_number n) (λ h. sym (eqb-true n 1 h)) (λ _. tt)))
+watchdog_same = either_same watchdog_number watchdog.Shut watchdog.Operate refl refl
 
 -- ---- plate, state and panel
 

@@ -64,11 +64,15 @@ mode_of n = cond (n == 0) (Some Dark) (cond (n == 1) (Some Standby) (cond (n == 
 abbrev pub failure_of : ℕ → Option FailureMode
 failure_of n = cond (n == 0) (Some Allok) (cond (n == 1) (Some Badlevdev) (cond (n == 2) (Some Hardfail) None))
 
+-- one of two values: 0 for the first, 1 for the second
+abbrev pub either : {A : Type 0} → A → A → ℕ → Option A
+either x y n = cond (n == 0) (Some x) (cond (n == 1) (Some y) None)
+
 abbrev pub signal_of : ℕ → Option Signal
-signal_of n = cond (n == 0) (Some signal.Shutdown) (cond (n == 1) (Some signal.Operate) None)
+signal_of = either signal.Shutdown signal.Operate
 
 abbrev pub watchdog_of : ℕ → Option Watchdog
-watchdog_of n = cond (n == 0) (Some watchdog.Shut) (cond (n == 1) (Some watchdog.Operate) None)
+watchdog_of = either watchdog.Shut watchdog.Operate
 
 abbrev pub flag_of : ℕ → Option Bool
-flag_of n = cond (n == 0) (Some false) (cond (n == 1) (Some true) None)
+flag_of = either false true

@@ -1,6 +1,6 @@
 ghost use Rattle.std.specs.Prelude.{◌≡◌};
 ghost use Rattle.sukepina.specs.Boundary.{StandsFor};
-ghost use Rattle.sukepina.specs.Core.{core_numbers, every, failure_number, failure_of, flag_of, mode_number, mode_of, numbers_of, signal_of, watchdog_of};
+ghost use Rattle.sukepina.specs.Core.{core_numbers, either, every, failure_number, failure_of, flag_of, mode_number, mode_of, numbers_of};
 
 use crate::numbers::CoreNumbers;
 use control::{Button, FailureMode, Mode, Plate, Signal, State, Watchdog};
@@ -49,8 +49,8 @@ impl CoreNumbers {
             state: State {
                 mode: mode_of(self.mode)?,
                 failure: failure_of(self.failure)?,
-                signal: signal_of(self.signal)?,
-                watchdog: watchdog_of(self.watchdog)?,
+                signal: either(Signal::Shutdown, Signal::Operate, self.signal)?,
+                watchdog: either(Watchdog::Shut, Watchdog::Operate, self.watchdog)?,
                 time: self.time,
                 entered: self.entered,
                 reset: Button {
@@ -123,33 +123,20 @@ fn failure_of(number: u32) -> Option<FailureMode>
     }
 }
 
-fn signal_of(number: u32) -> Option<Signal>
-    ensures { result ≡ signal_of number }
-{
-    match number {
-        0 => Some(Signal::Shutdown),
-        1 => Some(Signal::Operate),
-        _ => None,
-    }
-}
-
-fn watchdog_of(number: u32) -> Option<Watchdog>
-    ensures { result ≡ watchdog_of number }
-{
-    match number {
-        0 => Some(Watchdog::Shut),
-        1 => Some(Watchdog::Operate),
-        _ => None,
-    }
-}
-
 // A yes or no: the way there is `u32::from`.
 pub(crate) fn flag_of(number: u32) -> Option<bool>
     ensures { result ≡ flag_of number }
 {
+    either(false, true, number)
+}
+
+// The first value for 0, the second for 1.
+fn either<T: Copy>(first: T, second: T, number: u32) -> Option<T>
+    ensures { result ≡ either first second number }
+{
     match number {
-        0 => Some(false),
-        1 => Some(true),
+        0 => Some(first),
+        1 => Some(second),
         _ => None,
     }
 }

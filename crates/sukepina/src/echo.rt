@@ -100,7 +100,7 @@ fn switch_is_possible(switch: &Rest<DriveWord>, state: &State) -> bool
 fn gauge_is_possible(reading: Reading, mode: Mode) -> bool
     ensures { result ≡ gauge_possible reading mode }
 {
-    is_echo_reading(reading) && (fault_number(reading) != 5 || mode == Mode::Dark)
+    is_echo_reading(reading) && (reading != fresh_fault(Cause::Nothing) || mode == Mode::Dark)
 }
 
 fn rest_is_possible(switch: &Rest<DriveWord>, time: u64) -> bool
