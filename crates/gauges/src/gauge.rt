@@ -9,7 +9,7 @@ use crate::reading::Reading;
 // - `take` never refuses, and state and words alone fix the state after it (`taken`);
 // - `reading` answers the reading that the state means, and changes nothing;
 // - a level is never above 10,000,000 units.
-// A caller may rely on these, and on nothing else.
+// A caller may rely on these, and on nothing else. The two words come singly: a pair swaps them for its second gauge.
 pub trait Gauge {
     ghost model: { Model Self };
 

@@ -7,7 +7,7 @@ use std::test::Fail;
 // Flags 21, the time limit, words 1 and FFFFFFFF.
 const RECORD: [u8; 19] = *b"WL\x15\x00\x00\x09\x18\x4E\x72\xA0\x00\x00\x00\x00\x01\xFF\xFF\xFF\xFF";
 
-// The number of the refusal, or 0 for a step. A refusal names the place.
+// The number of the refusal, or 0 for a step: the numbers are tested, too. A refusal names the place.
 fn refusal(rt: &impl Abort, bytes: &[u8], place: usize) -> Result<u8, Fail> {
     match read_step(bytes, place) {
         Ok(_) => Ok(0),

@@ -10,6 +10,7 @@ const LAST_WORD: u32 = 4_095;
 const UNITS_PER_STEP: u32 = 2_400;
 
 // A float on an arm with a 12-bit encoder. It keeps the last word A; its reading follows from that.
+// Not one type with the pressure cell, which works alike: whoever makes a gauge has the public contracts alone.
 #[derive(Clone, Copy)]
 pub struct FloatArm {
     word: Option<u32>,

@@ -12,7 +12,7 @@ const LAST: Step = Step {
     clock_failed: true,
 };
 
-// The number of the refusal, or 0 for a step.
+// The number of the refusal, or 0 for a step: the numbers are tested, too.
 fn refusal(bytes: &[u8]) -> u8 {
     match read_step(bytes, 0) {
         Ok(_) => 0,

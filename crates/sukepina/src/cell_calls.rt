@@ -1,4 +1,5 @@
 // The exports of the monitor with a pressure cell and a direct contact.
+// C has no `Result`: each answers 0, or the number of its refusal.
 ghost use Rattle.std.specs.Prelude.{◌≡◌};
 ghost use Rattle.gauges.specs.Cell.{cell};
 ghost use Rattle.monitor.specs.Calls.{after_feed, line_of};

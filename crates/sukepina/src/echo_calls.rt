@@ -1,4 +1,5 @@
 // The exports of the monitor with an echo gauge, and a rest layer over a drive word.
+// C has no `Result`: each answers 0, or the number of its refusal.
 ghost use Rattle.std.specs.Prelude.{◌≡◌};
 ghost use Rattle.gauges.specs.Echo.{echo};
 ghost use Rattle.monitor.specs.Calls.{after_feed, line_of};

@@ -74,10 +74,8 @@ impl<S: Switch> Rest<S> {
     fn is_rested(&self) -> bool
         ensures { result ≡ rested self.now }
     {
-        match self.opening {
-            None => true,
-            Some(opening) => self.last >= opening && self.last - opening >= self.rest.millis(),
-        }
+        self.opening.is_none_or(|opening| self.last >= opening
+            && self.last - opening >= self.rest.millis())
     }
 }
 

@@ -72,10 +72,7 @@ fn is_mount(mount: f32) -> bool
 fn is_in_range(reading: Reading) -> bool
     ensures { result ≡ is_in_range reading }
 {
-    match reading {
-        Ok(level) => level <= LEVEL_LIMIT,
-        Err(_) => true,
-    }
+    reading.map_or(true, |level| level <= LEVEL_LIMIT)
 }
 
 impl Gauge for Echo {
