@@ -11,11 +11,10 @@ use gauges::{Cell, Echo, Gauge, Pair};
 use monitor::Monitor;
 use records::RECORD_LEN;
 use report::write_lines;
-use std::alloc::Global;
 use std::io::Write;
 use std::num::f32_from_bits_with_nan;
 use suite_input::{read_all, word};
-use switches::{DirectContact, DriveWord, Rest, RestTime, Switch};
+use switches::{CLOSED_WORD, DirectContact, DriveWord, Rest, RestTime, Switch};
 
 const HEADER_LEN: usize = 16;
 
@@ -29,7 +28,7 @@ fn main(rt: HostRuntime) -> anyhow::Result<()> {
         let (records, next) = behind
             .split_at_checked(run.count.saturating_mul(RECORD_LEN))
             .context("a run is cut short")?;
-        put_run(heap, run, records, &mut text)?;
+        put_run(run, records, &mut text)?;
         left = next;
     }
     ensure!(left.is_empty(), "a run is cut short");
@@ -76,40 +75,43 @@ impl From<u32> for Kind {
     }
 }
 
-fn put_run(heap: Global, run: Header, records: &[u8], text: &mut Vec<u8>) -> anyhow::Result<()> {
+fn put_run(run: Header, records: &[u8], text: &mut Vec<u8>) -> anyhow::Result<()> {
     let kind = run.kind;
     writeln!(text, "run {kind}")?;
-    let echo = Echo::new(run.mount).context("a run has a bad mount")?;
-    let rest = RestTime::new(u64::from(run.rest)).context("a run has a bad rest")?;
-    let half_rest = RestTime::new(u64::from(run.rest / 2)).context("a run has a bad rest")?;
+    let echo = Echo::new(run.mount).ok().context("a run has a bad mount")?;
+    let rest = RestTime::new(u64::from(run.rest))
+        .ok()
+        .context("a run has a bad rest")?;
+    let half_rest = RestTime::new(u64::from(run.rest / 2))
+        .ok()
+        .context("a run has a bad rest")?;
     let cell = Cell::new();
     let contact = DirectContact::new(true);
     match Kind::from(kind) {
         Kind::EchoAndRest => {
-            let drive = DriveWord::new(0x00FF);
-            put_lines(heap, echo, Rest::new(drive, rest), records, text)
+            let drive = DriveWord::new(CLOSED_WORD);
+            put_lines(echo, Rest::new(drive, rest), records, text)
         }
         Kind::CellsAndRests => {
             let rests = Rest::new(Rest::new(contact, rest), half_rest);
-            put_lines(heap, Pair::new(cell, Cell::new()), rests, records, text)
+            put_lines(Pair::new(cell, Cell::new()), rests, records, text)
         }
-        Kind::EchoAndCell => put_lines(heap, Pair::new(echo, cell), contact, records, text),
+        Kind::EchoAndCell => put_lines(Pair::new(echo, cell), contact, records, text),
     }
 }
 
 // A monitor over the gauge and the switch, and its line after each record.
 fn put_lines<G: Gauge + Drop, S: Switch + Drop>(
-    heap: Global,
     gauge: G,
     switch: S,
     records: &[u8],
     text: &mut Vec<u8>,
 ) -> anyhow::Result<()> {
     let mut monitor = Monitor::set_up(gauge, switch, Plate::standard());
+    let begin = text.len();
     let room = (records.len() / RECORD_LEN).saturating_mul(LINE_LEN);
-    let mut lines = vec![in heap; 0u8; room]?;
-    let done = write_lines(&mut monitor, records, 0, &mut lines);
-    let lines = lines.as_slice();
-    text.extend_from_slice(&lines[..done.written])?;
+    text.resize(begin.saturating_add(room), 0)?;
+    let done = write_lines(&mut monitor, records, 0, &mut text[begin..]);
+    text.truncate(begin.saturating_add(done.written));
     Ok(())
 }

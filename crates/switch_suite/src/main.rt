@@ -6,7 +6,7 @@
 use base::Refusal;
 use std::io::Write;
 use suite_input::{digit, read_all, word};
-use switches::{DirectContact, DriveWord, Rest, RestTime, Switch};
+use switches::{CLOSED_WORD, DirectContact, DriveWord, Rest, RestTime, Switch};
 
 const ENTRY_LEN: usize = 16;
 
@@ -107,7 +107,7 @@ fn rest(new: &Entry) -> Result<Rest<DirectContact>, Refusal> {
 fn rests(new: &Entry) -> Result<Rest<Rest<DriveWord>>, Refusal> {
     let lower = RestTime::new(u64::from(new.short))?;
     let upper = RestTime::new(new.long)?;
-    Ok(Rest::new(Rest::new(DriveWord::new(0x00FF), lower), upper))
+    Ok(Rest::new(Rest::new(DriveWord::new(CLOSED_WORD), lower), upper))
 }
 
 // Works a new switch by the calls that follow its making. One that was refused cannot be called.
