@@ -5,7 +5,7 @@
 use control::Plate;
 use gauges::{Cell, Gauge};
 use std::io::Write;
-use suite_input::digit;
+use suite_input::{digit, put_reading};
 
 const BEYOND: [u32; 4] = [65_535, 65_536, 2_147_483_648, 4_294_967_295];
 
@@ -22,14 +22,8 @@ fn put_row(word: u32, text: &mut String) -> anyhow::Result<()> {
     let mut cell = Cell::new();
     cell.take(word, 0);
     let reading = cell.reading();
-    match reading {
-        Ok(level) => write!(text, "{word} level {level}")?,
-        Err(fault) => {
-            let cause = fault.cause.number();
-            let height = fault.height;
-            write!(text, "{word} fault {cause} height {height}")?;
-        }
-    }
+    write!(text, "{word}")?;
+    put_reading(reading, text)?;
     let plate = Plate::standard();
     let past = digit(plate.is_past_mark(reading));
     let out = digit(plate.is_out_of_limits(reading));

@@ -7,7 +7,7 @@ use base::Refusal;
 use gauges::{Cell, Echo, Gauge, Pair, Reading};
 use std::io::Write;
 use std::num::f32_from_bits_with_nan;
-use suite_input::{read_all, word};
+use suite_input::{put_reading, read_all, word};
 
 const ENTRY_LEN: usize = 16;
 
@@ -67,11 +67,9 @@ fn put_row(entry: Entry, text: &mut String) -> anyhow::Result<()> {
     let Entry { kind, mount, a, b } = entry;
     write!(text, "{kind} {mount:08x} {a:08x} {b:08x}")?;
     match reading(entry) {
-        Ok(Ok(level)) => writeln!(text, " level {level}")?,
-        Ok(Err(fault)) => {
-            let cause = fault.cause.number();
-            let height = fault.height;
-            writeln!(text, " fault {cause} height {height}")?;
+        Ok(reading) => {
+            put_reading(reading, text)?;
+            text.push_str("\n")?;
         }
         Err(refusal) => {
             let number = refusal.number();

@@ -1,10 +1,13 @@
-// What the suite programs share: their input, numbers in it, and yes or no in their outputs.
+// What the suite programs share: their input, numbers in it, and readings and yes or no in their outputs.
 #![tactic(auto)]
 
-ghost use Rattle.std.specs.Prelude.{◌≡◌, IfOk, IfSome};
+ghost use Rattle.std.specs.Prelude.{◌≡◌, ◌++◌, string_bytes, IfOk, IfSome, OnOk};
+ghost use Rattle.suite_input.specs.Readings.{reading_text};
 ghost use Rattle.suite_input.specs.Words.{bit, word_at};
 
-use std::alloc::Global;
+use gauges::Reading;
+use std::alloc::{AllocError, Global};
+use std::fmt::Write;
 use std::io::{self, Read};
 
 #[cfg(test)]
@@ -34,4 +37,18 @@ pub fn digit(on: bool) -> u8
     ensures { result ≡ bit on }
 {
     u8::from(on)
+}
+
+// What a gauge reads, a space before it.
+pub fn put_reading(reading: Reading, text: &mut String) -> Result<(), AllocError>
+    ensures { OnOk result (string_bytes text.new ≡ string_bytes text.old ++ reading_text reading) }
+{
+    match reading {
+        Ok(level) => write!(text, " level {level}"),
+        Err(fault) => {
+            let cause = fault.cause.number();
+            let height = fault.height;
+            write!(text, " fault {cause} height {height}")
+        }
+    }
 }
