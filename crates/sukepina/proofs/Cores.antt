@@ -1,7 +1,6 @@
 -- Plate, state and panel as numbers and back: each of the two undoes the other.
-use Rattle.std.proofs.Common.{◌≡◌, ℕ, Bool, true, false, eqb, Some, None, Option, sym, refl, ap, ◌∙◌, subst}
-use Rattle.std.proofs.lemmas.Bool.{cond_both, eqb-true, false≢true}
-use Rattle.std.specs.Prelude.{is_some, unwrap_or}
+use Rattle.std.proofs.Common.{arith, ◌≡◌, ℕ, Bool, true, Some, Option, refl, ap}
+use Rattle.std.proofs.lemmas.Bool.Decides.{nat_tests}
 use mathlib.Core.Bool.{Bool-set}
 use mathlib.Core.HLevel.{is_prop→PathP}
 use Rattle.control.specs.PlateRules.{keeps_rules}
@@ -16,40 +15,23 @@ use Rattle.control.specs.declared.mode.Watchdog.{Watchdog}
 use Rattle.control.specs.declared.mode.Watchdog.TheVariants as watchdog
 use Rattle.control.specs.declared.plate.Plate.{Plate}
 use Rattle.monitor.specs.declared.monitor.Monitor.{Monitor}
-use Rattle.sukepina.specs.Core.{either, failure_number, failure_of, flag, flag_of, mode_number, mode_of, numbers_of, signal_of, watchdog_of}
+use Rattle.sukepina.specs.Core.{failure_number, failure_of, flag, flag_of, mode_number, mode_of, numbers_of, signal_of, watchdog_of}
 use Rattle.sukepina.specs.declared.core_numbers.Core.{Core}
 use Rattle.sukepina.specs.declared.numbers.CoreNumbers.{CoreNumbers}
 
 -- ---- what is kept as a number, if its number leads back to it
 
 module _ {A : Type 0} (number : A → ℕ) (of : ℕ → Option A) (back : (x : A) → of (number x) ≡ Some x) where
-  pub none_has : (n : ℕ) → of n ≡ None → (x : A) → number x ≡ n → ⊥
-  none_has n none x e = false≢true (ap is_some (sym none ∙ sym (ap of e) ∙ back x))
-
   pub one_has : (x y : A) → number x ≡ number y → x ≡ y
-  one_has x y e = ap (λ o. unwrap_or o x) (sym (back x) ∙ ap of e ∙ back y)
-
--- what a number leads to has that number
-abbrev IsBack : {A : Type 0} → (A → ℕ) → ℕ → Option A → Type 0
-IsBack number n (Some x) = number x ≡ n
-IsBack number n None = Unit {0}
-
--- ---- one of two values
-
-either_same : {A : Type 0} (number : A → ℕ) (x y : A) → number x ≡ 0 → number y ≡ 1 → (n : ℕ) (z : A) → either x y n ≡ Some z → number z ≡ n
-either_same number x y zero one n z e =
-    subst (IsBack number n) e
-    (cond_both (eqb n 0) _ _ (IsBack number n) (λ h. zero ∙ sym (eqb-true n 0 h)) (λ _.
-    cond_both (eqb n 1) _ _ (IsBack number n) (λ h. one ∙ sym (eqb-true n 1 h)) (λ _. tt)))
+  one_has x y e = cc (back x, back y)
 
 -- ---- yes or no
 
 pub flag_back : (b : Bool) → flag_of (flag b) ≡ Some b
-flag_back true = refl
-flag_back false = refl
+flag_back b = grind (arith, nat_tests)
 
 pub flag_same : (n : ℕ) (b : Bool) → flag_of n ≡ Some b → flag b ≡ n
-flag_same = either_same flag false true refl refl
+flag_same n b e = grind (arith, nat_tests)
 
 pub flag_one : (b c : Bool) → flag b ≡ flag c → b ≡ c
 flag_one = one_has flag flag_of flag_back
@@ -64,13 +46,7 @@ mode_back Shutdown = refl
 mode_back Test = refl
 
 pub mode_same : (n : ℕ) (m : Mode) → mode_of n ≡ Some m → mode_number m ≡ n
-mode_same n m e =
-    subst (IsBack mode_number n) e
-    (cond_both (eqb n 0) _ _ (IsBack mode_number n) (λ h. sym (eqb-true n 0 h)) (λ _.
-    cond_both (eqb n 1) _ _ (IsBack mode_number n) (λ h. sym (eqb-true n 1 h)) (λ _.
-    cond_both (eqb n 2) _ _ (IsBack mode_number n) (λ h. sym (eqb-true n 2 h)) (λ _.
-    cond_both (eqb n 3) _ _ (IsBack mode_number n) (λ h. sym (eqb-true n 3 h)) (λ _.
-    cond_both (eqb n 4) _ _ (IsBack mode_number n) (λ h. sym (eqb-true n 4 h)) (λ _. tt))))))
+mode_same n m e = grind (arith, nat_tests)
 
 pub failure_back : (f : FailureMode) → failure_of (failure_number f) ≡ Some f
 failure_back Allok = refl
@@ -78,11 +54,7 @@ failure_back Badlevdev = refl
 failure_back Hardfail = refl
 
 pub failure_same : (n : ℕ) (f : FailureMode) → failure_of n ≡ Some f → failure_number f ≡ n
-failure_same n f e =
-    subst (IsBack failure_number n) e
-    (cond_both (eqb n 0) _ _ (IsBack failure_number n) (λ h. sym (eqb-true n 0 h)) (λ _.
-    cond_both (eqb n 1) _ _ (IsBack failure_number n) (λ h. sym (eqb-true n 1 h)) (λ _.
-    cond_both (eqb n 2) _ _ (IsBack failure_number n) (λ h. sym (eqb-true n 2 h)) (λ _. tt))))
+failure_same n f e = grind (arith, nat_tests)
 
 abbrev pub signal_number : Signal → ℕ
 signal_number s = flag (operate s)
@@ -92,7 +64,7 @@ signal_back signal.Shutdown = refl
 signal_back signal.Operate = refl
 
 pub signal_same : (n : ℕ) (s : Signal) → signal_of n ≡ Some s → signal_number s ≡ n
-signal_same = either_same signal_number signal.Shutdown signal.Operate refl refl
+signal_same n s e = grind (arith, nat_tests)
 
 abbrev pub watchdog_number : Watchdog → ℕ
 watchdog_number w = flag (watched w)
@@ -102,7 +74,7 @@ watchdog_back watchdog.Shut = refl
 watchdog_back watchdog.Operate = refl
 
 pub watchdog_same : (n : ℕ) (w : Watchdog) → watchdog_of n ≡ Some w → watchdog_number w ≡ n
-watchdog_same = either_same watchdog_number watchdog.Shut watchdog.Operate refl refl
+watchdog_same n w e = grind (arith, nat_tests)
 
 -- ---- plate, state and panel
 

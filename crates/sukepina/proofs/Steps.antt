@@ -27,11 +27,11 @@ not_refused false x y r ok e = refl
 
 pub stepped : {G S : Type 0} (gm : gauge.Model G) (sm : switch.Model S) (m : Monitor G S) (s : Step) (r : Result Step Refusal) (done : Unit {0})
     → Ok s ≡ r → Ok done ≡ step_answer s → after_step gm sm m s ≡ with_step gm sm r m
-stepped gm sm m s r done is value = not_refused (ltb time_limit s.time) m (accepted gm sm m s) (Ok done) refl value ∙ ap (λ x. with_step gm sm x m) is
+stepped gm sm m s r done is value = grind (arith, nat_tests)
 
 pub unfed : {G S : Type 0} (gm : gauge.Model G) (sm : switch.Model S) (m : Monitor G S) (place : ℕ) (r : Result Step RecordFault) (why : RecordFault)
     → Err why ≡ next_place place r → with_record gm sm m r ≡ m
-unfed gm sm m place (Ok s) why e = absurd (false≢true (ap is_ok e))
+unfed gm sm m place (Ok s) why e = cc
 unfed gm sm m place (Err w) why e = refl
 
 module _ {G S : Type 0} (gm : gauge.Model G) (sm : switch.Model S) (possible : Monitor G S → Bool)

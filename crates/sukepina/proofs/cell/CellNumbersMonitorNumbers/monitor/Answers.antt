@@ -24,14 +24,3 @@ returns-then-not-is_cell_possible c =
     let word : or_0 (then_some taken n.word) ≡ n.word = search rules in
     let has = ap cell_numbers made ∙ cell_made n x taken closed c.in_ok-core.ensures.0 (sym c.in_ok-flag_of.ensures) word (sym c.in_ok-flag_of-2.ensures) in
     none_possible cell_numbers cell_possible n c.restore-monitor.result (λ k _ e. cell_one k c.restore-monitor.result (e ∙ sym has)) (sym c.if-not-is_cell_possible.ensures)
-
-pub returns : goal.returns
-returns c =
-    let n = c.args.self.now in
-    let x = c.in_ok-core.core in
-    let taken = c.in_ok-flag_of.field-0 in
-    let closed = c.in_ok-flag_of-2.field-0 in
-    let made : c.restore-monitor.result ≡ monitor_with (last_took (then_some taken n.word)) (contact_at closed) x.plate x.state x.panel = search rules in
-    let word : or_0 (then_some taken n.word) ≡ n.word = search rules in
-    let has = ap cell_numbers made ∙ cell_made n x taken closed c.in_ok-core.ensures.0 (sym c.in_ok-flag_of.ensures) word (sym c.in_ok-flag_of-2.ensures) in
-    (has, sym c.if-not-is_cell_possible.ensures)
