@@ -1,5 +1,5 @@
 -- What every accepted step keeps of a monitor's state and panel.
-use Rattle.std.proofs.Common.{◌≡◌, ℕ, ◌-◌, ◌≤◌, Bool, true, false, not, ◌&&◌, ◌||◌, eqb, leb, List, refl, arith}
+use Rattle.std.proofs.Common.{◌≡◌, ℕ, Bool, true, false, not, ◌&&◌, ◌||◌, leb, refl, arith}
 use mathlib.Core.Bool.{beq}
 use Rattle.std.proofs.lemmas.Bool.{and_parts, and_from, cond_both}
 use Rattle.std.proofs.lemmas.Slice.Eq.{bytes_eq-Decides}
@@ -12,74 +12,38 @@ use Rattle.control.specs.State.{dark, operate}
 use Rattle.control.specs.Transition.{bad_reading, clock_fails, conditions, mode_after, moved, next_signal, next_state, started, worse}
 use Rattle.control.specs.declared.button.Button.{Button}
 use Rattle.control.specs.declared.mode.FailureMode.{FailureMode}
-use Rattle.control.specs.declared.mode.FailureMode.TheVariants.{Allok, Badlevdev, Hardfail}
 use Rattle.control.specs.declared.mode.Mode.{Mode}
 use Rattle.control.specs.declared.mode.Mode.TheVariants as mode
 use Rattle.control.specs.declared.mode.Signal.{Signal}
-use Rattle.control.specs.declared.mode.Watchdog.{Watchdog}
 use Rattle.control.specs.declared.mode_table.Conditions.{Conditions}
 use Rattle.control.specs.declared.plate.Plate.{Plate}
 use Rattle.control.specs.declared.state.State.{State}
 use Rattle.display.specs.Figure.{figure_of}
 use Rattle.display.specs.Panel.{next_panel}
-use Rattle.display.specs.Warnings.{by_level, entered_from, flashing, in_test, lamp, next_warnings}
+use Rattle.display.specs.Warnings.{next_warnings}
 use Rattle.display.specs.declared.panel.Panel.{Panel}
 use Rattle.display.specs.declared.warnings.Warnings.{Warnings}
 use Rattle.gauges.specs.Model.{Reading}
 use Rattle.records.specs.declared.step.Step.{Step}
-use Rattle.sukepina.specs.Possible.{button_possible, implies, panel_possible, reading_possible, same, same_figure, same_warnings, signal_possible, state_possible, times_possible}
+use Rattle.sukepina.specs.Possible.{button_possible, implies, panel_possible, reading_possible, same, same_warnings, signal_possible, state_possible, times_possible}
 
 abbrev Lit : Mode → Type 0
 Lit m = is m mode.Dark ≡ false
 
 -- ---- the panel
 
-eqb_refl : (n : ℕ) → eqb n n ≡ true
-eqb_refl n = grind (arith, nat_tests)
-
 -- `==` on flags
 pub same_beq : (x y : Bool) → beq x y ≡ same x y
 same_beq x y = grind (arith, nat_tests)
 
-same_refl : (b : Bool) → same b b ≡ true
-same_refl b = grind (arith, nat_tests)
-
-lamp_again : (lit entered before : Bool) → same (lamp lit false (lamp lit entered before)) (lamp lit entered before) ≡ true
-lamp_again lit entered before = grind (arith, nat_tests)
-
-same_warnings_refl : (w : Warnings) → same_warnings w w ≡ true
-same_warnings_refl w = grind (arith, nat_tests)
-
-same_figure_refl : (f : List ℕ) → same_figure f f ≡ true
-same_figure_refl f = (bytes_eq-Decides f f).1 refl
-
-levels_again : (p : Plate) (w : Warnings) (r : Reading) (entered : Bool) → same_warnings (by_level p (by_level p w r entered) r false) (by_level p w r entered) ≡ true
-levels_again p w r entered = grind (arith, nat_tests, lamp_again)
-
--- a state by its fields, so that its modes can be told apart
-abbrev state : Mode → FailureMode → Signal → Watchdog → ℕ → ℕ → Button → Button → State
-state m f sg wd t e rs ts = record { mode = m; failure = f; signal = sg; watchdog = wd; time = t; entered = e; reset = rs; test = ts }
-
-warnings_again : (p : Plate) (w : Warnings) (before : Mode) (r : Reading) (m : Mode) (f : FailureMode) (sg : Signal) (wd : Watchdog) (t e : ℕ) (rs ts : Button)
-    → same_warnings (next_warnings p (next_warnings p w before (state m f sg wd t e rs ts) r) m (state m f sg wd t e rs ts) r) (next_warnings p w before (state m f sg wd t e rs ts) r) ≡ true
-warnings_again p w before r mode.Dark Allok sg wd t e rs ts = refl
-warnings_again p w before r mode.Standby Allok sg wd t e rs ts = same_warnings_refl w
-warnings_again p w before r mode.Operating Allok sg wd t e rs ts = levels_again p w r (entered_from before)
-warnings_again p w before r mode.Shutdown Allok sg wd t e rs ts = levels_again p w r false
-warnings_again p w before r mode.Test Allok sg wd t e rs ts = same_warnings_refl (in_test (t - e))
-warnings_again p w before r m Badlevdev sg wd t e rs ts = same_warnings_refl (flashing t)
-warnings_again p w before r m Hardfail sg wd t e rs ts = refl
+warnings_again : (p : Plate) (w : Warnings) (before : Mode) (st : State) (r : Reading)
+    → same_warnings (next_warnings p (next_warnings p w before st r) st.mode st r) (next_warnings p w before st r) ≡ true
+warnings_again p w before st r = grind (arith, nat_tests)
 
 pub panel_kept : (p : Plate) (d : Panel) (before : Mode) (st : State) (r : Reading) → panel_possible p st (next_panel p d before st r) r ≡ true
-panel_kept p d before st r =
-    and_from _ _
-    (warnings_again p d.warnings before r st.mode st.failure st.signal st.watchdog st.time st.entered st.reset st.test)
-    (same_figure_refl (figure_of st r))
+panel_kept p d before st r = and_from _ _ (warnings_again p d.warnings before st r) ((bytes_eq-Decides (figure_of st r) (figure_of st r)).1 refl)
 
 -- ---- the state
-
-within : (t : ℕ) → t ≤ time_limit → leb t time_limit ≡ true
-within t h = grind (arith, nat_tests)
 
 button_kept : (b : Button) (down : Bool) (t : ℕ) → leb b.since time_limit ≡ true → leb t time_limit ≡ true → button_possible (pressed b down t) t ≡ true
 button_kept b down t since now = grind (arith, nat_tests)
@@ -91,11 +55,7 @@ signal_kept : (m : Mode) (f : FailureMode) (reset : Bool) (sg : Signal) → impl
 signal_kept m f reset sg = grind (arith, nat_tests)
 
 never_dark : (m : Mode) (c : Conditions) → is m mode.Dark ≡ false → is (next_mode m c) mode.Dark ≡ false
-never_dark mode.Dark c e = cc
-never_dark mode.Standby c e = grind (arith, nat_tests)
-never_dark mode.Operating c e = grind (arith, nat_tests)
-never_dark mode.Shutdown c e = grind (arith, nat_tests)
-never_dark mode.Test c e = grind (arith, nat_tests)
+never_dark m c e = grind (arith, nat_tests)
 
 lit_after : (st : State) (f : FailureMode) (c : Conditions) → is st.mode mode.Dark ≡ false → is (mode_after st f c) mode.Dark ≡ false
 lit_after st f c e = grind (arith, nat_tests, never_dark st.mode c)
@@ -146,9 +106,9 @@ reading_kept p st s r =
     cond_both {A = State} s.power _ _ (λ n. reading_possible p n r ≡ true)
     (λ _.
     cond_both {A = State} (is st.mode mode.Dark) _ _ (λ n. reading_possible p n r ≡ true)
-    (λ _. bad_fails Allok (s.memory_failed || s.clock_failed) (bad_reading p r))
+    (λ _. grind (arith, nat_tests))
     (λ _. failing (bad_reading p r) (moved p st s r).failure _ (bad_fails st.failure (s.memory_failed || clock_fails st s) (bad_reading p r))))
-    (λ _. implies_true (bad_reading p r))
+    (λ _. grind (arith, nat_tests))
 
 -- ---- an accepted step
 
