@@ -1,5 +1,6 @@
 -- The cell monitor's numbers tell all of it, and every monitor's numbers fit.
-use Rattle.std.proofs.Common.{◌≡◌, Bool, true, false, ◌&&◌, eqb, leb, Some, refl, ap, ◌∙◌}
+use Rattle.std.proofs.Common.{arith, ◌≡◌, Bool, true, false, ◌&&◌, eqb, leb, Some, refl, ap}
+use Rattle.std.proofs.lemmas.Bool.Decides.{nat_tests}
 use Rattle.std.proofs.lemmas.Bool.{and_parts, and_from}
 use Rattle.base.specs.Limits.{time_limit}
 use Rattle.std.specs.Bool.{then_some}
@@ -13,9 +14,9 @@ use Rattle.monitor.specs.Calls.{accepted, gauge_after, monitor_with, set_up, wor
 use Rattle.records.specs.declared.step.Step.{Step}
 use Rattle.switches.specs.Direct.{contact_at, direct}
 use Rattle.switches.specs.declared.direct.DirectContact.{DirectContact}
-use Rattle.sukepina.proofs.Cores.{core_of, core_one, flag_one, flag_same}
-use Rattle.sukepina.proofs.Kept.{implies_true, panel_kept, powered, reading_kept, state_kept}
-use Rattle.sukepina.proofs.Missing.{missing_one, there_flag}
+use Rattle.sukepina.proofs.Cores.{core_of, core_one, flag_one}
+use Rattle.sukepina.proofs.Kept.{panel_kept, powered, reading_kept, state_kept}
+use Rattle.sukepina.proofs.Missing.{missing_one}
 use Rattle.sukepina.specs.Cell.{CellMonitor, cell_numbers, cell_possible}
 use Rattle.sukepina.specs.Core.{flag_of, numbers_of}
 use Rattle.sukepina.specs.Maybe.{or_0, there}
@@ -39,22 +40,16 @@ cell_one m m' e =
 pub cell_made : (n : CellNumbers) (x : Core) (taken closed : Bool) → numbers_of x ≡ n.core → flag_of n.taken ≡ Some taken
     → or_0 (then_some taken n.word) ≡ n.word → flag_of n.closed ≡ Some closed
     → cell_numbers (monitor_with (last_took (then_some taken n.word)) (contact_at closed) x.plate x.state x.panel) ≡ n
-cell_made n x taken closed core is word contact = λ i. record {
-  core = core i;
-  taken = (there_flag taken n.word ∙ flag_same n.taken taken is) i;
-  word = word i;
-  closed = flag_same n.closed closed contact i;
-}
+cell_made n x taken closed core is word contact = grind (arith, nat_tests)
 
 contact_kept : (sw : DirectContact) (close : Bool) → same (worked direct sw close).closed close ≡ true
-contact_kept sw true = refl
-contact_kept sw false = refl
+contact_kept sw close = grind (arith, nat_tests)
 
 -- only a dark monitor's cell took nothing, and the contact is closed exactly if the state drives the pump
 cell_rules : (m : CellMonitor) (s : Step) (power : Bool) → let after = accepted cell direct m (powered power s) in
     (implies (eqb (there after.gauge.word) 0) (is after.state.mode Dark) && same after.switch.closed (drives after.state)) ≡ true
 cell_rules m s true = contact_kept m.switch (drives (accepted cell direct m (powered true s)).state)
-cell_rules m s false = and_from _ _ (implies_true (eqb (there m.gauge.word) 0)) refl
+cell_rules m s false = grind (arith, nat_tests)
 
 -- an accepted step leaves what a monitor can be
 pub cell_kept : (m : CellMonitor) (s : Step) → leb s.time time_limit ≡ true → cell_possible m ≡ true → cell_possible (accepted cell direct m s) ≡ true

@@ -1,108 +1,50 @@
 -- Plate, state and panel as numbers and back: each of the two undoes the other.
-use Rattle.std.proofs.Common.{◌≡◌, ℕ, Bool, true, false, eqb, Some, None, Option, sym, refl, ap, ◌∙◌, subst}
-use Rattle.std.proofs.lemmas.Bool.{cond_both, eqb-true, false≢true}
-use Rattle.std.specs.Prelude.{is_some, unwrap_or}
+use Rattle.std.proofs.Common.{arith, ◌≡◌, ℕ, Bool, true, Some, ap}
+use Rattle.std.proofs.lemmas.Bool.Decides.{nat_tests}
 use mathlib.Core.Bool.{Bool-set}
 use mathlib.Core.HLevel.{is_prop→PathP}
 use Rattle.control.specs.PlateRules.{keeps_rules}
 use Rattle.control.specs.State.{operate, watched}
 use Rattle.control.specs.declared.mode.FailureMode.{FailureMode}
-use Rattle.control.specs.declared.mode.FailureMode.TheVariants.{Allok, Badlevdev, Hardfail}
 use Rattle.control.specs.declared.mode.Mode.{Mode}
-use Rattle.control.specs.declared.mode.Mode.TheVariants.{Dark, Standby, Operating, Shutdown, Test}
 use Rattle.control.specs.declared.mode.Signal.{Signal}
-use Rattle.control.specs.declared.mode.Signal.TheVariants as signal
 use Rattle.control.specs.declared.mode.Watchdog.{Watchdog}
-use Rattle.control.specs.declared.mode.Watchdog.TheVariants as watchdog
 use Rattle.control.specs.declared.plate.Plate.{Plate}
 use Rattle.monitor.specs.declared.monitor.Monitor.{Monitor}
-use Rattle.sukepina.specs.Core.{either, failure_number, failure_of, flag, flag_of, mode_number, mode_of, numbers_of, signal_of, watchdog_of}
+use Rattle.sukepina.specs.Core.{failure_number, failure_of, flag, flag_of, mode_number, mode_of, numbers_of, signal_of, watchdog_of}
 use Rattle.sukepina.specs.declared.core_numbers.Core.{Core}
-use Rattle.sukepina.specs.declared.numbers.CoreNumbers.{CoreNumbers}
 
--- ---- what is kept as a number, if its number leads back to it
-
-module _ {A : Type 0} (number : A → ℕ) (of : ℕ → Option A) (back : (x : A) → of (number x) ≡ Some x) where
-  pub none_has : (n : ℕ) → of n ≡ None → (x : A) → number x ≡ n → ⊥
-  none_has n none x e = false≢true (ap is_some (sym none ∙ sym (ap of e) ∙ back x))
-
-  pub one_has : (x y : A) → number x ≡ number y → x ≡ y
-  one_has x y e = ap (λ o. unwrap_or o x) (sym (back x) ∙ ap of e ∙ back y)
-
--- what a number leads to has that number
-abbrev IsBack : {A : Type 0} → (A → ℕ) → ℕ → Option A → Type 0
-IsBack number n (Some x) = number x ≡ n
-IsBack number n None = Unit {0}
-
--- ---- one of two values
-
-either_same : {A : Type 0} (number : A → ℕ) (x y : A) → number x ≡ 0 → number y ≡ 1 → (n : ℕ) (z : A) → either x y n ≡ Some z → number z ≡ n
-either_same number x y zero one n z e =
-    subst (IsBack number n) e
-    (cond_both (eqb n 0) _ _ (IsBack number n) (λ h. zero ∙ sym (eqb-true n 0 h)) (λ _.
-    cond_both (eqb n 1) _ _ (IsBack number n) (λ h. one ∙ sym (eqb-true n 1 h)) (λ _. tt)))
-
--- ---- yes or no
-
-pub flag_back : (b : Bool) → flag_of (flag b) ≡ Some b
-flag_back true = refl
-flag_back false = refl
-
-pub flag_same : (n : ℕ) (b : Bool) → flag_of n ≡ Some b → flag b ≡ n
-flag_same = either_same flag false true refl refl
+-- ---- what has the same number is the same, and what a number leads to has that number
 
 pub flag_one : (b c : Bool) → flag b ≡ flag c → b ≡ c
-flag_one = one_has flag flag_of flag_back
+flag_one b c e = grind (arith, nat_tests)
 
--- ---- modes
+pub flag_same : (n : ℕ) (b : Bool) → flag_of n ≡ Some b → flag b ≡ n
+flag_same n b e = grind (arith, nat_tests)
 
-pub mode_back : (m : Mode) → mode_of (mode_number m) ≡ Some m
-mode_back Dark = refl
-mode_back Standby = refl
-mode_back Operating = refl
-mode_back Shutdown = refl
-mode_back Test = refl
+mode_one : (m k : Mode) → mode_number m ≡ mode_number k → m ≡ k
+mode_one m k e = grind (arith, nat_tests)
 
 pub mode_same : (n : ℕ) (m : Mode) → mode_of n ≡ Some m → mode_number m ≡ n
-mode_same n m e =
-    subst (IsBack mode_number n) e
-    (cond_both (eqb n 0) _ _ (IsBack mode_number n) (λ h. sym (eqb-true n 0 h)) (λ _.
-    cond_both (eqb n 1) _ _ (IsBack mode_number n) (λ h. sym (eqb-true n 1 h)) (λ _.
-    cond_both (eqb n 2) _ _ (IsBack mode_number n) (λ h. sym (eqb-true n 2 h)) (λ _.
-    cond_both (eqb n 3) _ _ (IsBack mode_number n) (λ h. sym (eqb-true n 3 h)) (λ _.
-    cond_both (eqb n 4) _ _ (IsBack mode_number n) (λ h. sym (eqb-true n 4 h)) (λ _. tt))))))
+mode_same n m e = grind (arith, nat_tests)
 
-pub failure_back : (f : FailureMode) → failure_of (failure_number f) ≡ Some f
-failure_back Allok = refl
-failure_back Badlevdev = refl
-failure_back Hardfail = refl
+failure_one : (f k : FailureMode) → failure_number f ≡ failure_number k → f ≡ k
+failure_one f k e = grind (arith, nat_tests)
 
 pub failure_same : (n : ℕ) (f : FailureMode) → failure_of n ≡ Some f → failure_number f ≡ n
-failure_same n f e =
-    subst (IsBack failure_number n) e
-    (cond_both (eqb n 0) _ _ (IsBack failure_number n) (λ h. sym (eqb-true n 0 h)) (λ _.
-    cond_both (eqb n 1) _ _ (IsBack failure_number n) (λ h. sym (eqb-true n 1 h)) (λ _.
-    cond_both (eqb n 2) _ _ (IsBack failure_number n) (λ h. sym (eqb-true n 2 h)) (λ _. tt))))
+failure_same n f e = grind (arith, nat_tests)
 
-abbrev pub signal_number : Signal → ℕ
-signal_number s = flag (operate s)
+signal_one : (s k : Signal) → flag (operate s) ≡ flag (operate k) → s ≡ k
+signal_one s k e = grind (arith, nat_tests)
 
-pub signal_back : (s : Signal) → signal_of (signal_number s) ≡ Some s
-signal_back signal.Shutdown = refl
-signal_back signal.Operate = refl
+pub signal_same : (n : ℕ) (s : Signal) → signal_of n ≡ Some s → flag (operate s) ≡ n
+signal_same n s e = grind (arith, nat_tests)
 
-pub signal_same : (n : ℕ) (s : Signal) → signal_of n ≡ Some s → signal_number s ≡ n
-signal_same = either_same signal_number signal.Shutdown signal.Operate refl refl
+watchdog_one : (w k : Watchdog) → flag (watched w) ≡ flag (watched k) → w ≡ k
+watchdog_one w k e = grind (arith, nat_tests)
 
-abbrev pub watchdog_number : Watchdog → ℕ
-watchdog_number w = flag (watched w)
-
-pub watchdog_back : (w : Watchdog) → watchdog_of (watchdog_number w) ≡ Some w
-watchdog_back watchdog.Shut = refl
-watchdog_back watchdog.Operate = refl
-
-pub watchdog_same : (n : ℕ) (w : Watchdog) → watchdog_of n ≡ Some w → watchdog_number w ≡ n
-watchdog_same = either_same watchdog_number watchdog.Shut watchdog.Operate refl refl
+pub watchdog_same : (n : ℕ) (w : Watchdog) → watchdog_of n ≡ Some w → flag (watched w) ≡ n
+watchdog_same n w e = grind (arith, nat_tests)
 
 -- ---- plate, state and panel
 
@@ -116,10 +58,10 @@ same_plate p q e = λ i. record {
 module _ (x y : Core) (e : numbers_of x ≡ numbers_of y) where
   state_one : x.state ≡ y.state
   state_one = λ i. record {
-    mode = one_has mode_number mode_of mode_back x.state.mode y.state.mode (ap (λ n. n.mode) e) i;
-    failure = one_has failure_number failure_of failure_back x.state.failure y.state.failure (ap (λ n. n.failure) e) i;
-    signal = one_has signal_number signal_of signal_back x.state.signal y.state.signal (ap (λ n. n.signal) e) i;
-    watchdog = one_has watchdog_number watchdog_of watchdog_back x.state.watchdog y.state.watchdog (ap (λ n. n.watchdog) e) i;
+    mode = mode_one x.state.mode y.state.mode (ap (λ n. n.mode) e) i;
+    failure = failure_one x.state.failure y.state.failure (ap (λ n. n.failure) e) i;
+    signal = signal_one x.state.signal y.state.signal (ap (λ n. n.signal) e) i;
+    watchdog = watchdog_one x.state.watchdog y.state.watchdog (ap (λ n. n.watchdog) e) i;
     time = (e i).time;
     entered = (e i).entered;
     reset = record { down = flag_one x.state.reset.down y.state.reset.down (ap (λ n. n.reset_down) e) i; since = (e i).reset_since };
@@ -127,14 +69,7 @@ module _ (x y : Core) (e : numbers_of x ≡ numbers_of y) where
   }
 
   panel_one : x.panel ≡ y.panel
-  panel_one = λ i. record {
-    warnings = record {
-      high = flag_one x.panel.warnings.high y.panel.warnings.high (ap (λ n. n.high) e) i;
-      low = flag_one x.panel.warnings.low y.panel.warnings.low (ap (λ n. n.low) e) i;
-      alarm = flag_one x.panel.warnings.alarm y.panel.warnings.alarm (ap (λ n. n.alarm) e) i;
-    };
-    figure = (e i).figure;
-  }
+  panel_one = grind (arith, nat_tests)
 
   -- parts that have the same numbers are the same
   pub core_one : x ≡ y
@@ -142,31 +77,3 @@ module _ (x y : Core) (e : numbers_of x ≡ numbers_of y) where
 
 abbrev pub core_of : {G S : Type 0} → Monitor G S → Core
 core_of m = record { plate = m.plate; state = m.state; panel = m.panel }
-
--- the numbers of parts, each of which stands for one of n
-pub core_same : (n : CoreNumbers) (x : Core) → x.plate.numbers ≡ n.plate
-    → mode_of n.mode ≡ Some x.state.mode → failure_of n.failure ≡ Some x.state.failure
-    → signal_of n.signal ≡ Some x.state.signal → watchdog_of n.watchdog ≡ Some x.state.watchdog
-    → x.state.time ≡ n.time → x.state.entered ≡ n.entered
-    → flag_of n.reset_down ≡ Some x.state.reset.down → x.state.reset.since ≡ n.reset_since
-    → flag_of n.test_down ≡ Some x.state.test.down → x.state.test.since ≡ n.test_since
-    → flag_of n.high ≡ Some x.panel.warnings.high → flag_of n.low ≡ Some x.panel.warnings.low
-    → flag_of n.alarm ≡ Some x.panel.warnings.alarm → x.panel.figure ≡ n.figure
-    → numbers_of x ≡ n
-core_same n x plate mode failure signal watchdog time entered reset reset_since test test_since high low alarm figure = λ i. record {
-  time = time i;
-  entered = entered i;
-  reset_since = reset_since i;
-  test_since = test_since i;
-  plate = plate i;
-  mode = mode_same n.mode x.state.mode mode i;
-  failure = failure_same n.failure x.state.failure failure i;
-  signal = signal_same n.signal x.state.signal signal i;
-  watchdog = watchdog_same n.watchdog x.state.watchdog watchdog i;
-  reset_down = flag_same n.reset_down x.state.reset.down reset i;
-  test_down = flag_same n.test_down x.state.test.down test i;
-  high = flag_same n.high x.panel.warnings.high high i;
-  low = flag_same n.low x.panel.warnings.low low i;
-  alarm = flag_same n.alarm x.panel.warnings.alarm alarm i;
-  figure = figure i;
-}

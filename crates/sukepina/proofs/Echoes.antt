@@ -1,10 +1,10 @@
 -- The echo monitor's numbers tell all of what it can be, and calls keep it so.
-use Rattle.std.proofs.Common.{◌≡◌, ℕ, ◌<◌, ◌≤◌, Bool, true, false, ◌&&◌, eqb, ltb, leb, Some, None, Option, Ok, Err, sym, refl, ap, ◌∙◌, arith}
+use Rattle.std.proofs.Common.{None, cond, ◌≡◌, ℕ, ◌<◌, ◌≤◌, Bool, true, false, ◌&&◌, leb, Some, sym, ap, ◌∙◌, arith}
 use mathlib.Core.Bool.{Bool-set}
 use mathlib.Core.HLevel.{is_prop→PathP}
 use native.Mathlib.Bridge.{le_prop}
-use lib.Ieee.{Float, binary32, of_bits}
-use Rattle.std.proofs.lemmas.Bool.{and_parts, and_from, cond_both, eqb-true, false≢true}
+use lib.Ieee.{Float}
+use Rattle.std.proofs.lemmas.Bool.{and_parts, and_from}
 use Rattle.std.proofs.lemmas.Bool.Decides.{nat_tests}
 use Rattle.std.specs.Bool.{then_some}
 use Rattle.base.specs.Limits.{time_limit}
@@ -16,29 +16,28 @@ use Rattle.control.specs.declared.mode.Mode.TheVariants.{Dark}
 use Rattle.control.specs.declared.plate.Plate.{Plate}
 use Rattle.control.specs.declared.state.State.{State}
 use Rattle.display.specs.Panel.{dark_panel}
-use Rattle.gauges.specs.Causes.{cause_number}
 use Rattle.gauges.specs.Echo.{echo}
-use Rattle.gauges.specs.EchoWord.{echo_reading, gap_reading, lost, out_of_reach}
+use Rattle.gauges.specs.EchoWord.{echo_reading}
 use Rattle.gauges.specs.Height.{in_mount}
 use Rattle.gauges.specs.Model.{Reading, fresh, is_in_range}
 use Rattle.gauges.specs.declared.echo.Echo.{Echo}
-use Rattle.gauges.specs.declared.reading.Cause.{Cause}
-use Rattle.gauges.specs.declared.reading.Cause.TheVariants.{Scale, Lost, Reach, Apart, Nothing}
+use Rattle.gauges.specs.declared.reading.Cause.TheVariants.{Nothing}
 use Rattle.monitor.specs.Calls.{accepted, gauge_after, monitor_with, set_up, worked}
 use Rattle.records.specs.declared.step.Step.{Step}
 use Rattle.switches.specs.Drive.{drive, word_at}
-use Rattle.switches.specs.Model.{asked_to_close}
-use Rattle.switches.specs.Rest.{new_rest, opening_after, rest_with, resting}
+use Rattle.switches.specs.Rest.{new_rest, rest_with, resting}
 use Rattle.switches.specs.declared.rest_time.RestTime.{RestTime}
-use Rattle.sukepina.proofs.Cores.{core_of, core_one, flag_same}
-use Rattle.sukepina.proofs.Kept.{implies_true, panel_kept, powered, reading_kept, state_kept}
-use Rattle.sukepina.proofs.Missing.{missing_one, there_flag}
-use Rattle.sukepina.specs.Echo.{EchoMonitor, Resting, cause_read, echo_numbers, echo_possible, echo_read, fault_number, gauge_possible, level_number, opening_possible, reading_numbers, rest_possible, switch_possible}
+use Rattle.sukepina.proofs.Cores.{core_of, core_one}
+use Rattle.sukepina.proofs.Kept.{panel_kept, powered, reading_kept, state_kept}
+use Rattle.sukepina.proofs.Serving.{stands}
+use Rattle.sukepina.specs.Boundary.{StandsFor}
+use Rattle.sukepina.proofs.Missing.{missing_one}
+use Rattle.sukepina.specs.Echo.{EchoMonitor, Resting, echo_numbers, echo_possible, echo_read, fault_number, gauge_possible, level_number, reading_numbers, rest_possible, switch_possible}
 use Rattle.sukepina.specs.declared.core_numbers.Core.{Core}
 use Rattle.sukepina.specs.declared.numbers.EchoNumbers.{EchoNumbers}
 use Rattle.sukepina.specs.Core.{flag_of, numbers_of}
 use Rattle.sukepina.specs.Maybe.{or_0}
-use Rattle.sukepina.specs.Possible.{core_possible, implies, state_possible}
+use Rattle.sukepina.specs.Possible.{core_possible, state_possible}
 
 -- ---- gauges and rests that tell the same are the same: ghost fields add nothing
 
@@ -55,41 +54,9 @@ same_rest p q e = λ i. record { millis = e i; within = is_prop→PathP (λ j. e
 
 -- ---- readings and words as numbers, and back
 
-no_cause : (c : Cause) → cause_read c ≡ true → cause_number c ≡ 0 → ⊥
-no_cause Scale r e = false≢true r
-no_cause Lost r e = false≢true (ap (eqb 0) e)
-no_cause Reach r e = false≢true (ap (eqb 0) e)
-no_cause Apart r e = false≢true r
-no_cause Nothing r e = false≢true (ap (eqb 0) e)
-
 -- what an echo gauge reads tells itself by its numbers
-cause_one : (c d : Cause) → cause_read c ≡ true → cause_read d ≡ true → cause_number c ≡ cause_number d → c ≡ d
-cause_one Lost Lost _ _ e = refl
-cause_one Reach Reach _ _ e = refl
-cause_one Nothing Nothing _ _ e = refl
-cause_one Lost Reach _ _ e = absurd (false≢true (ap (eqb 3) e))
-cause_one Lost Nothing _ _ e = absurd (false≢true (ap (eqb 5) e))
-cause_one Reach Lost _ _ e = absurd (false≢true (ap (eqb 2) e))
-cause_one Reach Nothing _ _ e = absurd (false≢true (ap (eqb 5) e))
-cause_one Nothing Lost _ _ e = absurd (false≢true (ap (eqb 2) e))
-cause_one Nothing Reach _ _ e = absurd (false≢true (ap (eqb 3) e))
-cause_one Scale d e _ _ = absurd (false≢true e)
-cause_one Apart d e _ _ = absurd (false≢true e)
-cause_one Lost Scale _ e _ = absurd (false≢true e)
-cause_one Lost Apart _ e _ = absurd (false≢true e)
-cause_one Reach Scale _ e _ = absurd (false≢true e)
-cause_one Reach Apart _ e _ = absurd (false≢true e)
-cause_one Nothing Scale _ e _ = absurd (false≢true e)
-cause_one Nothing Apart _ e _ = absurd (false≢true e)
-
 reading_one : (r q : Reading) → echo_read r ≡ true → echo_read q ≡ true → fault_number r ≡ fault_number q → level_number r ≡ level_number q → r ≡ q
-reading_one (Ok u) (Ok v) _ _ _ e = ap Ok e
-reading_one (Ok u) (Err g) _ rq e _ = absurd (no_cause g.cause (and_parts _ _ rq).0 (sym e))
-reading_one (Err f) (Ok v) rr _ e _ = absurd (no_cause f.cause (and_parts _ _ rr).0 e)
-reading_one (Err f) (Err g) rr rq e _ =
-    let p = and_parts (cause_read f.cause) _ rr in
-    let q = and_parts (cause_read g.cause) _ rq in
-    λ i. Err (record { cause = cause_one f.cause g.cause p.0 q.0 e i; height = (eqb-true f.height 0 p.1 ∙ sym (eqb-true g.height 0 q.1)) i })
+reading_one r q can can' fault level = grind (arith, nat_tests)
 
 -- ---- numbers and monitors
 
@@ -126,87 +93,46 @@ echo_one m m' read read' e =
       panel = (core i).panel;
     }
 
--- the numbers of a monitor, each part of which stands for one of n
-pub echo_made : (n : EchoNumbers) (x : Core) (g : Echo) (t : RestTime) (opened : Bool) → numbers_of x ≡ n.core
-    → g.mount ≡ n.mount → reading_numbers g.last ≡ (n.fault, n.level) → t.millis ≡ n.rest → flag_of n.opened ≡ Some opened
-    → or_0 (then_some opened n.opening) ≡ n.opening
-    → echo_numbers (monitor_with g (rest_with (word_at n.drive) t n.last_tick (then_some opened n.opening)) x.plate x.state x.panel) ≡ n
-echo_made n x g t opened core mount reading rest is opening = λ i. record {
-  core = core i;
-  rest = rest i;
-  last_tick = n.last_tick;
-  opening = opening i;
-  opened = (there_flag opened n.opening ∙ flag_same n.opened opened is) i;
-  mount = mount i;
-  fault = (reading i).0;
-  level = (reading i).1;
-  drive = n.drive;
-}
+-- what n stands for, where each part of a monitor stands for one of n
+pub echo_stands : (n : EchoNumbers) (m : EchoMonitor) (x : Core) (g : Echo) (t : RestTime) (opened : Bool)
+    → m ≡ monitor_with g (rest_with (word_at n.drive) t n.last_tick (then_some opened n.opening)) x.plate x.state x.panel
+    → numbers_of x ≡ n.core → g.mount ≡ n.mount → (reading_numbers g.last ≡ (n.fault, n.level)) × (echo_read g.last ≡ true) → t.millis ≡ n.rest
+    → flag_of n.opened ≡ Some opened → or_0 (then_some opened n.opening) ≡ n.opening
+    → (can : Bool) → echo_possible m ≡ can → StandsFor echo_numbers echo_possible n (cond can (Some m) None)
+echo_stands n m x g t opened made core mount reading rest is opening =
+    let numbers : echo_numbers (monitor_with g (rest_with (word_at n.drive) t n.last_tick (then_some opened n.opening)) x.plate x.state x.panel) ≡ n = grind (arith, nat_tests) in
+    let has = ap echo_numbers made ∙ numbers in
+    let reads : echo_read m.gauge.last ≡ true = ap (λ k. echo_read k.gauge.last) made ∙ reading.1 in
+    stands echo_numbers echo_possible n m has (λ k can e. echo_one k m (echo_reads k can) reads (e ∙ sym has))
 
 -- a drive's word has 16 bits
 pub word_in_16 : (m : EchoMonitor) → echo_possible m ≡ true → m.switch.below.word < 65536
-word_in_16 m can =
-    let word = (and_parts (opening_possible m.switch.opening m.switch.last) _ (and_parts (eqb m.switch.last m.state.time) _ (resting_can m can)).1).1 in
-    grind (arith, nat_tests)
+word_in_16 m can = let can = switch_can m can in grind (arith, nat_tests)
 
 -- ---- what a step keeps of the gauge
 
 -- what is read once words were taken: never nothing
 taken_possible : (mount : Float) (a : ℕ) (mode : Mode) → gauge_possible (echo_reading mount a) mode ≡ true
-taken_possible mount a mode =
-    cond_both (lost a) _ _ (λ w. gauge_possible (gap_reading mount w) mode ≡ true) (λ _. refl) (λ _.
-    cond_both (out_of_reach (of_bits binary32 a) mount) _ _ (λ w. gauge_possible (gap_reading mount w) mode ≡ true) (λ _. refl) (λ _. refl))
+taken_possible mount a mode = grind (arith, nat_tests)
 
 -- ---- what a step keeps of the switch
 
-opening_kept : (opening : Option ℕ) (last t : ℕ) (opened : Bool) → opening_possible opening last ≡ true → opening_possible (opening_after opening opened (ltb t last) t) t ≡ true
-opening_kept None last t opened e = grind (arith, nat_tests)
-opening_kept (Some o) last t opened e = grind (arith, nat_tests)
-
-opening_stays : (opening : Option ℕ) (t : ℕ) (opened : Bool) → opening_possible opening t ≡ true → opening_possible (opening_after opening opened false t) t ≡ true
-opening_stays None t opened e = grind (arith, nat_tests)
-opening_stays (Some o) t opened e = grind (arith, nat_tests)
-
-itself : (t : ℕ) → eqb t t ≡ true
-itself t = grind (arith, nat_tests)
-
 ticked_kept : (s : Resting) (t was : ℕ) → rest_possible s was ≡ true → rest_possible ((resting drive).ticked s t) t ≡ true
-ticked_kept s t was e =
-    let parts = and_parts _ _ (and_parts (eqb s.last was) _ e).1 in
-    and_from _ _ (itself t) (and_from _ _ (opening_kept s.opening s.last t _ parts.0) parts.1)
-
-opened_kept : (s : Resting) (t : ℕ) → rest_possible s t ≡ true → rest_possible ((resting drive).opened s) t ≡ true
-opened_kept s t e =
-    let last = and_parts (eqb s.last t) _ e in
-    let parts = and_parts _ _ last.1 in
-    and_from _ _ last.0 (and_from _ _ (opening_stays s.opening s.last _ parts.0) refl)
-
-closed_kept : (s : Resting) (t : ℕ) → rest_possible s t ≡ true → rest_possible (asked_to_close (resting drive) s) t ≡ true
-closed_kept s t e =
-    let last = and_parts (eqb s.last t) _ e in
-    cond_both ((resting drive).free s) _ _ (λ x. rest_possible x t ≡ true)
-    (λ _. and_from _ _ last.0 (and_from _ _ (and_parts _ _ last.1).0 refl))
-    (λ _. e)
+ticked_kept s t was e = grind (arith, nat_tests)
 
 -- the switch worked: closed only where it was asked to
 worked_kept : (s : Resting) (t : ℕ) (st : State) (close : Bool) → st.time ≡ t → (close ≡ true → drives st ≡ true) → rest_possible s t ≡ true → switch_possible (worked (resting drive) s close) st ≡ true
-worked_kept s t st true time asked e =
-    and_from _ _ (ap (rest_possible (asked_to_close (resting drive) s)) time ∙ closed_kept s t e)
-    (ap (implies (eqb (asked_to_close (resting drive) s).below.word 0x00FF)) (asked refl) ∙ implies_true (eqb (asked_to_close (resting drive) s).below.word 0x00FF))
-worked_kept s t st false time asked e = and_from _ _ (ap (rest_possible ((resting drive).opened s)) time ∙ opened_kept s t e) refl
+worked_kept s t st close time asked e = grind (arith, nat_tests)
 
 next_time : (p : Plate) (st : State) (s : Step) (r : Reading) → (next_state p st s r).time ≡ s.time
-next_time p st s r =
-    cond_both {A = State} s.power _ _ (λ n. n.time ≡ s.time)
-    (λ _. cond_both {A = State} (is st.mode Dark) _ _ (λ n. n.time ≡ s.time) (λ _. refl) (λ _. refl))
-    (λ _. refl)
+next_time p st s r = grind (arith, nat_tests)
 
 -- ---- an accepted step leaves what a monitor can be
 
 echo_gauge_kept : (m : EchoMonitor) (s : Step) (power : Bool) → gauge_possible m.gauge.last m.state.mode ≡ true
     → let after = accepted echo (resting drive) m (powered power s) in gauge_possible after.gauge.last after.state.mode ≡ true
 echo_gauge_kept m s true e = taken_possible m.gauge.mount s.a (accepted echo (resting drive) m (powered true s)).state.mode
-echo_gauge_kept m s false e = and_from _ _ (and_parts (echo_read m.gauge.last) _ e).0 (implies_true (eqb (fault_number m.gauge.last) 5))
+echo_gauge_kept m s false e = grind (arith, nat_tests)
 
 pub echo_kept : (m : EchoMonitor) (s : Step) → leb s.time time_limit ≡ true → echo_possible m ≡ true → echo_possible (accepted echo (resting drive) m s) ≡ true
 echo_kept m s t can =

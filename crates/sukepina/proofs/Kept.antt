@@ -1,146 +1,83 @@
 -- What every accepted step keeps of a monitor's state and panel.
-use Rattle.std.proofs.Common.{◌≡◌, ℕ, ◌-◌, ◌≤◌, Bool, true, false, not, ◌&&◌, ◌||◌, eqb, ltb, leb, List, [], ◌∷◌, sym, refl, ap, arith}
+use Rattle.std.proofs.Common.{◌≡◌, ℕ, Bool, true, false, not, ◌&&◌, ◌||◌, leb, refl, arith}
 use mathlib.Core.Bool.{beq}
-use Rattle.std.proofs.lemmas.Bool.{and_parts, and_from, cond_both, false≢true}
+use Rattle.std.proofs.lemmas.Bool.{and_parts, and_from, cond_both}
+use Rattle.std.proofs.lemmas.Slice.Eq.{bytes_eq-Decides}
 use Rattle.std.proofs.lemmas.Bool.Decides.{nat_tests}
 use Rattle.base.specs.Limits.{time_limit}
-use Rattle.control.specs.Button.{pressed, released}
+use Rattle.control.specs.Button.{pressed}
 use Rattle.control.specs.Modes.{allok, is}
 use Rattle.control.specs.ModeTable.{next_mode}
-use Rattle.control.specs.Plate.{high, low, out_of_limits}
 use Rattle.control.specs.State.{dark, operate}
 use Rattle.control.specs.Transition.{bad_reading, clock_fails, conditions, mode_after, moved, next_signal, next_state, started, worse}
 use Rattle.control.specs.declared.button.Button.{Button}
 use Rattle.control.specs.declared.mode.FailureMode.{FailureMode}
-use Rattle.control.specs.declared.mode.FailureMode.TheVariants.{Allok, Badlevdev, Hardfail}
 use Rattle.control.specs.declared.mode.Mode.{Mode}
 use Rattle.control.specs.declared.mode.Mode.TheVariants as mode
 use Rattle.control.specs.declared.mode.Signal.{Signal}
-use Rattle.control.specs.declared.mode.Watchdog.{Watchdog}
 use Rattle.control.specs.declared.mode_table.Conditions.{Conditions}
 use Rattle.control.specs.declared.plate.Plate.{Plate}
 use Rattle.control.specs.declared.state.State.{State}
 use Rattle.display.specs.Figure.{figure_of}
 use Rattle.display.specs.Panel.{next_panel}
-use Rattle.display.specs.Warnings.{by_level, entered_from, flashing, in_test, lamp, next_warnings}
+use Rattle.display.specs.Warnings.{next_warnings}
 use Rattle.display.specs.declared.panel.Panel.{Panel}
 use Rattle.display.specs.declared.warnings.Warnings.{Warnings}
 use Rattle.gauges.specs.Model.{Reading}
 use Rattle.records.specs.declared.step.Step.{Step}
-use Rattle.sukepina.specs.Possible.{button_possible, dark_possible, implies, panel_possible, reading_possible, same, same_figure, same_warnings, signal_possible, state_possible, times_possible}
+use Rattle.sukepina.specs.Possible.{button_possible, implies, panel_possible, reading_possible, same, same_warnings, signal_possible, state_possible, times_possible}
 
 abbrev Lit : Mode → Type 0
 Lit m = is m mode.Dark ≡ false
 
 -- ---- the panel
 
-eqb_refl : (n : ℕ) → eqb n n ≡ true
-eqb_refl n = grind (arith, nat_tests)
-
 -- `==` on flags
 pub same_beq : (x y : Bool) → beq x y ≡ same x y
-same_beq true true = refl
-same_beq true false = refl
-same_beq false true = refl
-same_beq false false = refl
+same_beq x y = grind (arith, nat_tests)
 
-same_refl : (b : Bool) → same b b ≡ true
-same_refl true = refl
-same_refl false = refl
-
-lamp_again : (lit entered before : Bool) → same (lamp lit false (lamp lit entered before)) (lamp lit entered before) ≡ true
-lamp_again true entered before = refl
-lamp_again false true before = refl
-lamp_again false false true = refl
-lamp_again false false false = refl
-
-same_warnings_refl : (w : Warnings) → same_warnings w w ≡ true
-same_warnings_refl w = and_from _ _ (same_refl w.high) (and_from _ _ (same_refl w.low) (same_refl w.alarm))
-
-same_figure_refl : (f : List ℕ) → same_figure f f ≡ true
-same_figure_refl [] = refl
-same_figure_refl (x ∷ f) = and_from _ _ (eqb_refl x) (same_figure_refl f)
-
-levels_again : (p : Plate) (w : Warnings) (r : Reading) (entered : Bool) → same_warnings (by_level p (by_level p w r entered) r false) (by_level p w r entered) ≡ true
-levels_again p w r entered =
-    and_from _ _ (lamp_again (high p r) entered w.high) (and_from _ _ (lamp_again (low p r) entered w.low) (lamp_again (out_of_limits p r) entered w.alarm))
-
--- a state by its fields, so that its modes can be told apart
-abbrev state : Mode → FailureMode → Signal → Watchdog → ℕ → ℕ → Button → Button → State
-state m f sg wd t e rs ts = record { mode = m; failure = f; signal = sg; watchdog = wd; time = t; entered = e; reset = rs; test = ts }
-
-warnings_again : (p : Plate) (w : Warnings) (before : Mode) (r : Reading) (m : Mode) (f : FailureMode) (sg : Signal) (wd : Watchdog) (t e : ℕ) (rs ts : Button)
-    → same_warnings (next_warnings p (next_warnings p w before (state m f sg wd t e rs ts) r) m (state m f sg wd t e rs ts) r) (next_warnings p w before (state m f sg wd t e rs ts) r) ≡ true
-warnings_again p w before r mode.Dark Allok sg wd t e rs ts = refl
-warnings_again p w before r mode.Standby Allok sg wd t e rs ts = same_warnings_refl w
-warnings_again p w before r mode.Operating Allok sg wd t e rs ts = levels_again p w r (entered_from before)
-warnings_again p w before r mode.Shutdown Allok sg wd t e rs ts = levels_again p w r false
-warnings_again p w before r mode.Test Allok sg wd t e rs ts = same_warnings_refl (in_test (t - e))
-warnings_again p w before r m Badlevdev sg wd t e rs ts = same_warnings_refl (flashing t)
-warnings_again p w before r m Hardfail sg wd t e rs ts = refl
+warnings_again : (p : Plate) (w : Warnings) (before : Mode) (st : State) (r : Reading)
+    → same_warnings (next_warnings p (next_warnings p w before st r) st.mode st r) (next_warnings p w before st r) ≡ true
+warnings_again p w before st r = grind (arith, nat_tests)
 
 pub panel_kept : (p : Plate) (d : Panel) (before : Mode) (st : State) (r : Reading) → panel_possible p st (next_panel p d before st r) r ≡ true
-panel_kept p d before st r =
-    and_from _ _
-    (warnings_again p d.warnings before r st.mode st.failure st.signal st.watchdog st.time st.entered st.reset st.test)
-    (same_figure_refl (figure_of st r))
+panel_kept p d before st r = and_from _ _ (warnings_again p d.warnings before st r) ((bytes_eq-Decides (figure_of st r) (figure_of st r)).1 refl)
 
 -- ---- the state
-
-within : (t : ℕ) → t ≤ time_limit → leb t time_limit ≡ true
-within t h = grind (arith, nat_tests)
 
 button_kept : (b : Button) (down : Bool) (t : ℕ) → leb b.since time_limit ≡ true → leb t time_limit ≡ true → button_possible (pressed b down t) t ≡ true
 button_kept b down t since now = grind (arith, nat_tests)
 
 pub implies_true : (x : Bool) → implies x true ≡ true
-implies_true true = refl
-implies_true false = refl
+implies_true x = grind (arith, nat_tests)
 
 signal_kept : (m : Mode) (f : FailureMode) (reset : Bool) (sg : Signal) → implies (operate (next_signal m f reset sg)) (allok f && (is m mode.Operating || is m mode.Shutdown)) ≡ true
-signal_kept mode.Dark Allok reset sg = refl
-signal_kept mode.Standby Allok reset sg = refl
-signal_kept mode.Operating Allok reset sg = implies_true _
-signal_kept mode.Shutdown Allok reset sg = implies_true _
-signal_kept mode.Test Allok reset sg = refl
-signal_kept m Badlevdev reset sg = refl
-signal_kept m Hardfail reset sg = refl
+signal_kept m f reset sg = grind (arith, nat_tests)
 
 never_dark : (m : Mode) (c : Conditions) → is m mode.Dark ≡ false → is (next_mode m c) mode.Dark ≡ false
-never_dark mode.Dark c e = absurd (false≢true (sym e))
-never_dark mode.Standby c e = cond_both (ltb 500 c.tested) _ _ Lit (λ _. refl) (λ _. cond_both (ltb 3000 c.reset && c.settled) _ _ Lit (λ _. refl) (λ _. refl))
-never_dark mode.Operating c e = cond_both (ltb 500 c.tested) _ _ Lit (λ _. refl) (λ _. cond_both (not c.testing && c.out) _ _ Lit (λ _. refl) (λ _. refl))
-never_dark mode.Shutdown c e =
-    cond_both (ltb 500 c.tested) _ _ Lit (λ _. refl) (λ _.
-    cond_both (not c.testing && leb 200 c.dwell) _ _ Lit (λ _. refl) (λ _.
-    cond_both (not c.testing && (ltb c.dwell 200 && c.settled)) _ _ Lit (λ _. refl) (λ _. refl)))
-never_dark mode.Test c e = cond_both (ltb 14000 c.dwell) _ _ Lit (λ _. refl) (λ _. refl)
+never_dark m c e = grind (arith, nat_tests)
 
 lit_after : (st : State) (f : FailureMode) (c : Conditions) → is st.mode mode.Dark ≡ false → is (mode_after st f c) mode.Dark ≡ false
-lit_after st f c e = cond_both (allok f) _ _ Lit (λ _. never_dark st.mode c e) (λ _. e)
+lit_after st f c e = grind (arith, nat_tests, never_dark st.mode c)
 
 -- a state that is not dark, by its parts
 lit_possible : (st : State) → times_possible st ≡ true → signal_possible st ≡ true → is st.mode mode.Dark ≡ false → state_possible st ≡ true
-lit_possible st times signal lit = and_from _ _ times (and_from _ _ signal (ap (λ b. implies b (dark_possible st)) lit))
+lit_possible st times signal lit = grind (arith, nat_tests)
 
 module _ (p : Plate) (st : State) (s : Step) (r : Reading) (e : times_possible st ≡ true) (t : leb s.time time_limit ≡ true) where
   dark_kept : state_possible (dark s.time) ≡ true
   dark_kept = grind (arith, nat_tests)
 
   started_kept : state_possible (started p s r) ≡ true
-  started_kept =
-      lit_possible (started p s r)
-      (and_from _ _ t (and_from _ _ t (and_from _ _ (button_kept (released s.time) s.reset s.time t t) (button_kept (released s.time) s.self_test s.time t t))))
-      refl refl
+  started_kept = grind (arith, nat_tests)
 
   moved_kept : is st.mode mode.Dark ≡ false → state_possible (moved p st s r) ≡ true
   moved_kept lit =
-      let p1 = and_parts _ _ (and_parts (leb st.time time_limit) _ e).1 in
-      let p2 = and_parts _ _ p1.1 in
-      let reset = (and_parts _ _ p2.0).0 in
-      let test = (and_parts _ _ p2.1).0 in
       let after = moved p st s r in
-      let entered : leb after.entered time_limit ≡ true = cond_both (is after.mode st.mode) _ _ (λ x. leb x time_limit ≡ true) (λ _. p1.0) (λ _. t) in
+      let reset : leb st.reset.since time_limit ≡ true = grind (arith, nat_tests) in
+      let test : leb st.test.since time_limit ≡ true = grind (arith, nat_tests) in
+      let was : leb st.entered time_limit ≡ true = grind (arith, nat_tests) in
+      let entered : leb after.entered time_limit ≡ true = cond_both (is after.mode st.mode) _ _ (λ x. leb x time_limit ≡ true) (λ _. was) (λ _. t) in
       lit_possible after
       (and_from _ _ t (and_from _ _ entered (and_from _ _ (button_kept st.reset s.reset s.time reset t) (button_kept st.test s.self_test s.time test t))))
       (signal_kept after.mode after.failure s.reset st.signal)
@@ -159,27 +96,19 @@ state_kept p st s r e t =
 -- ---- the reading
 
 bad_fails : (f : FailureMode) (failed bad : Bool) → implies bad (not (allok (worse f failed bad)) || false) ≡ true
-bad_fails f true true = refl
-bad_fails f true false = refl
-bad_fails Allok false true = refl
-bad_fails Badlevdev false true = refl
-bad_fails Hardfail false true = refl
-bad_fails f false false = refl
+bad_fails f failed bad = grind (arith, nat_tests)
 
 failing : (bad : Bool) (f : FailureMode) (b : Bool) → implies bad (not (allok f) || false) ≡ true → implies bad (not (allok f) || b) ≡ true
-failing true Allok b e = absurd (false≢true e)
-failing true Badlevdev b e = refl
-failing true Hardfail b e = refl
-failing false f b e = refl
+failing bad f b e = grind (arith, nat_tests)
 
 pub reading_kept : (p : Plate) (st : State) (s : Step) (r : Reading) → reading_possible p (next_state p st s r) r ≡ true
 reading_kept p st s r =
     cond_both {A = State} s.power _ _ (λ n. reading_possible p n r ≡ true)
     (λ _.
     cond_both {A = State} (is st.mode mode.Dark) _ _ (λ n. reading_possible p n r ≡ true)
-    (λ _. bad_fails Allok (s.memory_failed || s.clock_failed) (bad_reading p r))
+    (λ _. grind (arith, nat_tests))
     (λ _. failing (bad_reading p r) (moved p st s r).failure _ (bad_fails st.failure (s.memory_failed || clock_fails st s) (bad_reading p r))))
-    (λ _. implies_true (bad_reading p r))
+    (λ _. grind (arith, nat_tests))
 
 -- ---- an accepted step
 

@@ -1,5 +1,5 @@
 -- A call served, and a call refused because no monitor can have the numbers.
-use Rattle.std.proofs.Common.{◌≡◌, Bool, true, false, None, Option, sym, refl, ap, ◌∙◌, subst}
+use Rattle.std.proofs.Common.{◌≡◌, Bool, true, false, cond, Some, None, Option, sym, ap, ◌∙◌, subst}
 use Rattle.std.proofs.lemmas.Bool.{false_from_ne_true, false≢true}
 use Rattle.sukepina.specs.Boundary.{Call, StandsFor}
 
@@ -10,20 +10,14 @@ module _ {N M : Type 0} (numbers : M → N) (possible : M → Bool) (n : N) wher
   pub none_stands : ((m : M) → possible m ≡ true → numbers m ≡ n → ⊥) → (r : Option M) → r ≡ None → StandsFor numbers possible n r
   none_stands without r none = subst (StandsFor numbers possible n) (sym none) (λ m e. false_from_ne_true (possible m) (λ can. without m can e))
 
-  -- nothing, if the one thing that has the numbers is not possible
-  pub none_possible : (m : M) → ((k : M) → possible k ≡ true → numbers k ≡ n → k ≡ m) → possible m ≡ false → StandsFor numbers possible n None
-  none_possible m only cannot = λ k e. false_from_ne_true (possible k) (λ can. false≢true (sym cannot ∙ ap possible (sym (only k can e)) ∙ can))
+  -- the one thing that has the numbers if it is possible, and else nothing
+  pub stands : (m : M) → numbers m ≡ n → ((k : M) → possible k ≡ true → numbers k ≡ n → k ≡ m) → (can : Bool) → possible m ≡ can → StandsFor numbers possible n (cond can (Some m) None)
+  stands m has only true can = (has, can)
+  stands m has only false cannot = λ k e. false_from_ne_true (possible k) (λ can. false≢true (sym cannot ∙ ap possible (sym (only k can e)) ∙ can))
 
 -- ---- calls
 
 module _ {N M R : Type 0} (numbers : M → N) (possible : M → Bool) (unserved : R) (answer : M → R) (after : M → M) where
-  pub no_monitor_call : (n : N) → ((m : M) → numbers m ≡ n → possible m ≡ false) → Call numbers possible unserved answer after n unserved n
-  no_monitor_call n none = record {
-    served = λ m e can. absurd (false≢true (sym (none m e) ∙ can));
-    refused = λ _. (refl, refl);
-    leaves = λ a. a;
-  }
-
   pub served_call : ((m m' : M) → possible m ≡ true → possible m' ≡ true → numbers m ≡ numbers m' → m ≡ m') → ((m : M) → possible m ≡ true → possible (after m) ≡ true)
       → (n : N) (m : M) → numbers m ≡ n → possible m ≡ true → (r : R) → r ≡ answer m → (n' : N) → n' ≡ numbers (after m)
       → Call numbers possible unserved answer after n r n'

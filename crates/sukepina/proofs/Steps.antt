@@ -1,11 +1,9 @@
 -- What accepted steps keep, the boundary's calls keep.
-use Rattle.std.proofs.Common.{◌≡◌, sym, refl, ap, ◌∙◌, cond, Ok, Err, ℕ, zero, suc, ◌+◌, ◌-◌, Bool, true, false, not, ltb, leb, List, length, get_or, take, drop, Result, arith}
-use Rattle.std.proofs.lemmas.Bool.{cond_both, false≢true}
+use Rattle.std.proofs.Common.{◌≡◌, refl, Ok, Err, ℕ, zero, suc, ◌+◌, ◌-◌, Bool, true, false, not, ltb, leb, List, length, get_or, take, drop, Result, arith}
+use Rattle.std.proofs.lemmas.Bool.{cond_both}
 use Rattle.std.proofs.lemmas.Bool.Decides.{nat_tests}
-use Rattle.std.specs.Prelude.{is_ok}
 use Rattle.base.specs.Limits.{time_limit}
 use Rattle.base.specs.declared.refusal.Refusal.{Refusal}
-use Rattle.base.specs.declared.refusal.Refusal.TheVariants.{Time}
 use Rattle.gauges.specs.Model as gauge
 use Rattle.monitor.specs.Calls.{accepted, after_feed, after_step, next_place, step_answer, with_record}
 use Rattle.monitor.specs.declared.monitor.Monitor.{Monitor}
@@ -21,17 +19,13 @@ in_time : (t : ℕ) → ltb time_limit t ≡ false → leb t time_limit ≡ true
 in_time t e = grind (arith, nat_tests)
 
 -- where a call is not refused it does what is asked, and a refused record leaves the monitor
-not_refused : {A : Type 0} (b : Bool) (x y : A) (r : Result (Unit {0}) Refusal) → is_ok r ≡ true → r ≡ cond b (Err Time) (Ok tt) → cond b x y ≡ y
-not_refused true x y r ok e = absurd (false≢true (sym (ap is_ok e) ∙ ok))
-not_refused false x y r ok e = refl
-
 pub stepped : {G S : Type 0} (gm : gauge.Model G) (sm : switch.Model S) (m : Monitor G S) (s : Step) (r : Result Step Refusal) (done : Unit {0})
     → Ok s ≡ r → Ok done ≡ step_answer s → after_step gm sm m s ≡ with_step gm sm r m
-stepped gm sm m s r done is value = not_refused (ltb time_limit s.time) m (accepted gm sm m s) (Ok done) refl value ∙ ap (λ x. with_step gm sm x m) is
+stepped gm sm m s r done is value = grind (arith, nat_tests)
 
 pub unfed : {G S : Type 0} (gm : gauge.Model G) (sm : switch.Model S) (m : Monitor G S) (place : ℕ) (r : Result Step RecordFault) (why : RecordFault)
     → Err why ≡ next_place place r → with_record gm sm m r ≡ m
-unfed gm sm m place (Ok s) why e = absurd (false≢true (ap is_ok e))
+unfed gm sm m place (Ok s) why e = cc
 unfed gm sm m place (Err w) why e = refl
 
 module _ {G S : Type 0} (gm : gauge.Model G) (sm : switch.Model S) (possible : Monitor G S → Bool)

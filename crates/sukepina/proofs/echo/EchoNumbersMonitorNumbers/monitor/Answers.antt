@@ -1,15 +1,10 @@
-use Rattle.std.proofs.Common.{◌≡◌, ◌<◌, true, sym, ap, ◌∙◌, subst, true≢false, rules}
-use Rattle.std.specs.Bool.{then_some}
-use Rattle.monitor.specs.Calls.{monitor_with}
-use Rattle.switches.specs.Drive.{word_at}
-use Rattle.switches.specs.Rest.{rest_with}
+use Rattle.std.proofs.Common.{true, false, ◌<◌, sym, ap, ◌∙◌, subst, true≢false, rules}
 use Rattle.sukepina.proofs.Cores.{core_of}
-use Rattle.sukepina.proofs.Echoes.{echo_made, echo_one, echo_reads, word_in_16}
+use Rattle.sukepina.proofs.Echoes.{echo_reads, echo_stands, word_in_16}
 use Rattle.sukepina.proofs.Missing.{none_if, ok_is}
-use Rattle.sukepina.proofs.Serving.{none_possible, none_stands}
+use Rattle.sukepina.proofs.Serving.{none_stands}
 use Rattle.sukepina.proofs.echo.EchoNumbersMonitorNumbers.monitor.Goals as goal
-use Rattle.sukepina.specs.Echo.{echo_numbers, echo_possible, echo_read, reading_numbers}
-use Rattle.sukepina.specs.Maybe.{or_0}
+use Rattle.sukepina.specs.Echo.{echo_numbers, echo_possible}
 
 pub returns-in_err-core : goal.returns-in_err-core
 returns-in_err-core c =
@@ -28,31 +23,12 @@ returns-in_err-ok c =
 
 pub returns-then-not-is_echo_possible : goal.returns-then-not-is_echo_possible
 returns-then-not-is_echo_possible c =
-    let n = c.args.self.now in
-    let x = c.in_ok-core.core in
-    let g = c.in_ok-gauge.gauge in
-    let rest = c.in_ok-rest.rest in
-    let opened = c.in_ok-flag_of.field-0 in
-    let made : c.restore-monitor.result ≡ monitor_with g (rest_with (word_at n.drive) rest n.last_tick (then_some opened n.opening)) x.plate x.state x.panel = search rules in
-    let opening : or_0 (then_some opened n.opening) ≡ n.opening = search rules in
-    let millis : rest.millis ≡ n.rest = (ok_is _ _ c.new.result rest c.in_ok-rest.ensures.value c.new.ensures).0 in
-    let read = c.in_ok-reading_of.ensures in
-    let last = c.in_ok-gauge.ensures.3 in
-    let has = ap echo_numbers made ∙ echo_made n x g rest opened c.in_ok-core.ensures.0 c.in_ok-gauge.ensures.2 (ap reading_numbers last ∙ read.0) millis (sym c.in_ok-flag_of.ensures) opening in
-    let reads : echo_read c.restore-monitor.result.gauge.last ≡ true = ap (λ m. echo_read m.gauge.last) made ∙ ap echo_read last ∙ read.1 in
-    none_possible echo_numbers echo_possible n c.restore-monitor.result (λ k can e. echo_one k c.restore-monitor.result (echo_reads k can) reads (e ∙ sym has)) (sym c.if-not-is_echo_possible.ensures)
+    echo_stands c.args.self.now c.restore-monitor.result c.in_ok-core.core c.in_ok-gauge.gauge c.in_ok-rest.rest c.in_ok-flag_of.field-0 (search rules)
+    c.in_ok-core.ensures.0 c.in_ok-gauge.ensures.2 (search rules) (ok_is _ _ c.new.result c.in_ok-rest.rest c.in_ok-rest.ensures.value c.new.ensures).0
+    (sym c.in_ok-flag_of.ensures) (search rules) false (sym c.if-not-is_echo_possible.ensures)
 
 pub returns : goal.returns
 returns c =
-    let n = c.args.self.now in
-    let x = c.in_ok-core.core in
-    let g = c.in_ok-gauge.gauge in
-    let rest = c.in_ok-rest.rest in
-    let opened = c.in_ok-flag_of.field-0 in
-    let made : c.restore-monitor.result ≡ monitor_with g (rest_with (word_at n.drive) rest n.last_tick (then_some opened n.opening)) x.plate x.state x.panel = search rules in
-    let opening : or_0 (then_some opened n.opening) ≡ n.opening = search rules in
-    let millis : rest.millis ≡ n.rest = (ok_is _ _ c.new.result rest c.in_ok-rest.ensures.value c.new.ensures).0 in
-    let read = c.in_ok-reading_of.ensures in
-    let last = c.in_ok-gauge.ensures.3 in
-    let has = ap echo_numbers made ∙ echo_made n x g rest opened c.in_ok-core.ensures.0 c.in_ok-gauge.ensures.2 (ap reading_numbers last ∙ read.0) millis (sym c.in_ok-flag_of.ensures) opening in
-    (has, sym c.if-not-is_echo_possible.ensures)
+    echo_stands c.args.self.now c.restore-monitor.result c.in_ok-core.core c.in_ok-gauge.gauge c.in_ok-rest.rest c.in_ok-flag_of.field-0 (search rules)
+    c.in_ok-core.ensures.0 c.in_ok-gauge.ensures.2 (search rules) (ok_is _ _ c.new.result c.in_ok-rest.rest c.in_ok-rest.ensures.value c.new.ensures).0
+    (sym c.in_ok-flag_of.ensures) (search rules) true (sym c.if-not-is_echo_possible.ensures)
