@@ -75,7 +75,7 @@ pub(crate) fn lines<N: MonitorNumbers>(
         return Err(CallError::NoMonitor);
     };
     if *place < bytes.len() && out.len() < LINE_LEN {
-        Err(Refusal::Output)?
+        return Err(Refusal::Output.into());
     }
     let done = write_lines(&mut monitor, bytes, *place, out);
     *numbers = N::of(&monitor);

@@ -121,19 +121,15 @@ fn opening_is_possible(opening: Option<u64>, last: u64) -> bool
 fn is_echo_reading(reading: Reading) -> bool
     ensures { result ≡ echo_read reading }
 {
-    match reading {
-        Ok(_) => true,
-        Err(fault) => is_echo_cause(fault.cause) && fault.height == 0,
-    }
+    reading
+        .err()
+        .is_none_or(|fault| is_echo_cause(fault.cause) && fault.height == 0)
 }
 
 fn is_echo_cause(cause: Cause) -> bool
     ensures { result ≡ cause_read cause }
 {
-    match cause {
-        Cause::Lost | Cause::Reach | Cause::Nothing => true,
-        Cause::Scale | Cause::Apart => false,
-    }
+    matches!(cause, Cause::Lost | Cause::Reach | Cause::Nothing)
 }
 
 // The cause of a fault, or 0 for a level.
@@ -146,7 +142,7 @@ fn fault_number(reading: Reading) -> u32
     }
 }
 
-// The echo gauge's reading with these numbers, or none if there is none.
+// The echo gauge's reading with these numbers, or none if there is none. Written out, as C's other numbers are.
 fn reading_of(fault: u32, level: u32) -> Option<Reading>
     ensures { StandsFor reading_numbers echo_read (fault, level) result }
 {

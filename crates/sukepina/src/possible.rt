@@ -51,22 +51,20 @@ fn button_is_possible(button: Button, time: u64) -> bool
 fn signal_is_possible(state: &State) -> bool
     ensures { result ≡ signal_possible state.now }
 {
-    match (state.signal, state.failure, state.mode) {
-        (Signal::Shutdown, _, _) => true,
-        (_, FailureMode::Allok, Mode::Operating | Mode::Shutdown) => true,
-        _ => false,
-    }
+    state.signal == Signal::Shutdown
+        || (state.failure == FailureMode::Allok
+            && matches!(state.mode, Mode::Operating | Mode::Shutdown))
 }
 
 fn dark_is_possible(state: &State) -> bool
     ensures { result ≡ dark_possible state.now }
 {
-    match (state.failure, state.signal, state.watchdog) {
-        (FailureMode::Allok, Signal::Shutdown, Watchdog::Shut) => !state.reset.down
-            && !state.test.down
-            && state.entered == state.time,
-        _ => false,
-    }
+    state.failure == FailureMode::Allok
+        && state.signal == Signal::Shutdown
+        && state.watchdog == Watchdog::Shut
+        && !state.reset.down
+        && !state.test.down
+        && state.entered == state.time
 }
 
 // Showing the last step again changes nothing.
