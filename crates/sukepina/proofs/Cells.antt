@@ -14,7 +14,8 @@ use Rattle.monitor.specs.Calls.{accepted, gauge_after, monitor_with, set_up, wor
 use Rattle.records.specs.declared.step.Step.{Step}
 use Rattle.switches.specs.Direct.{contact_at, direct}
 use Rattle.switches.specs.declared.direct.DirectContact.{DirectContact}
-use Rattle.sukepina.proofs.Cores.{core_of, core_one, flag_one}
+use Rattle.sukepina.proofs.Cores.{core_one, flag_one}
+use Rattle.sukepina.specs.Core.{core_of}
 use Rattle.sukepina.proofs.Kept.{panel_kept, powered, reading_kept, state_kept}
 use Rattle.sukepina.proofs.Missing.{missing_one}
 use Rattle.sukepina.specs.Cell.{CellMonitor, cell_numbers, cell_possible}

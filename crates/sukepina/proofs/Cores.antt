@@ -10,7 +10,6 @@ use Rattle.control.specs.declared.mode.Mode.{Mode}
 use Rattle.control.specs.declared.mode.Signal.{Signal}
 use Rattle.control.specs.declared.mode.Watchdog.{Watchdog}
 use Rattle.control.specs.declared.plate.Plate.{Plate}
-use Rattle.monitor.specs.declared.monitor.Monitor.{Monitor}
 use Rattle.sukepina.specs.Core.{failure_number, failure_of, flag, flag_of, mode_number, mode_of, numbers_of, signal_of, watchdog_of}
 use Rattle.sukepina.specs.declared.core_numbers.Core.{Core}
 
@@ -74,6 +73,3 @@ module _ (x y : Core) (e : numbers_of x ≡ numbers_of y) where
   -- parts that have the same numbers are the same
   pub core_one : x ≡ y
   core_one = λ i. record { plate = same_plate x.plate y.plate (ap (λ n. n.plate) e) i; state = state_one i; panel = panel_one i }
-
-abbrev pub core_of : {G S : Type 0} → Monitor G S → Core
-core_of m = record { plate = m.plate; state = m.state; panel = m.panel }

@@ -27,7 +27,8 @@ use Rattle.records.specs.declared.step.Step.{Step}
 use Rattle.switches.specs.Drive.{drive, word_at}
 use Rattle.switches.specs.Rest.{new_rest, rest_with, resting}
 use Rattle.switches.specs.declared.rest_time.RestTime.{RestTime}
-use Rattle.sukepina.proofs.Cores.{core_of, core_one}
+use Rattle.sukepina.proofs.Cores.{core_one}
+use Rattle.sukepina.specs.Core.{core_of}
 use Rattle.sukepina.proofs.Kept.{panel_kept, powered, reading_kept, state_kept}
 use Rattle.sukepina.proofs.Serving.{stands}
 use Rattle.sukepina.specs.Boundary.{StandsFor}

@@ -12,6 +12,7 @@ use Rattle.control.specs.declared.mode.Watchdog.TheVariants as watchdog
 use Rattle.control.specs.declared.plate.Plate.{Plate}
 use Rattle.control.specs.declared.state.State.{State}
 use Rattle.display.specs.declared.panel.Panel.{Panel}
+use Rattle.monitor.specs.declared.monitor.Monitor.{Monitor}
 use Rattle.sukepina.specs.declared.core_numbers.Core.{Core}
 use Rattle.sukepina.specs.declared.numbers.CoreNumbers.{CoreNumbers}
 
@@ -50,6 +51,9 @@ core_numbers p st d = record {
 }
 
 -- a monitor's parts but for its gauge and its switch; any of them are possible
+abbrev pub core_of : {G S : Type 0} → Monitor G S → Core
+core_of m = record { plate = m.plate; state = m.state; panel = m.panel }
+
 abbrev pub numbers_of : Core → CoreNumbers
 numbers_of x = core_numbers x.plate x.state x.panel
 

@@ -3,7 +3,7 @@ ghost use Rattle.sukepina.specs.Calls.{call_number};
 ghost use Rattle.sukepina.specs.Cell.{CellMonitor, CellSetUp, cell_numbers, cell_possible};
 
 use crate::call_error::CallError;
-use crate::core_numbers::flag_of;
+use crate::core_numbers::{Core, flag_of};
 use crate::monitor_numbers::MonitorNumbers;
 use crate::numbers::{CellNumbers, CoreNumbers};
 use crate::possible::is_possible;
@@ -24,7 +24,7 @@ impl MonitorNumbers for CellNumbers {
     fn of(monitor: &Monitor<Cell, DirectContact>) -> CellNumbers {
         let word = monitor.gauge().word();
         CellNumbers {
-            core: CoreNumbers::new(monitor.plate(), monitor.state(), monitor.panel()),
+            core: CoreNumbers::new(&Core::of(monitor)),
             taken: u32::from(word.is_some()),
             word: word.unwrap_or(0),
             closed: u32::from(monitor.switch().is_closed()),
@@ -64,12 +64,8 @@ pub(crate) fn set_up(numbers: &mut CellNumbers, plate: &PlateNumbers) -> Result<
 fn is_cell_possible(monitor: &Monitor<Cell, DirectContact>) -> bool
     ensures { result ≡ cell_possible monitor.now }
 {
-    let state = monitor.state();
-    is_possible(
-        &monitor.plate(),
-        &state,
-        &monitor.panel(),
-        monitor.gauge().reading(),
-    ) && (monitor.gauge().word().is_some() || state.mode == Mode::Dark)
-        && monitor.switch().is_closed() == state.drives()
+    let core = Core::of(monitor);
+    is_possible(&core, monitor.gauge().reading())
+        && (monitor.gauge().word().is_some() || core.state.mode == Mode::Dark)
+        && monitor.switch().is_closed() == core.state.drives()
 }

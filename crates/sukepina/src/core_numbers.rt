@@ -1,10 +1,13 @@
 ghost use Rattle.std.specs.Prelude.{◌≡◌};
 ghost use Rattle.sukepina.specs.Boundary.{StandsFor};
-ghost use Rattle.sukepina.specs.Core.{core_numbers, either, every, failure_number, failure_of, flag_of, mode_number, mode_of, numbers_of};
+ghost use Rattle.sukepina.specs.Core.{core_of, either, every, failure_number, failure_of, flag_of, mode_number, mode_of, numbers_of};
 
 use crate::numbers::CoreNumbers;
 use control::{Button, FailureMode, Mode, Plate, Signal, State, Watchdog};
 use display::{Panel, Warnings};
+use gauges::Gauge;
+use monitor::Monitor;
+use switches::Switch;
 
 // A monitor but for its gauge and its switch.
 #[derive(Clone, Copy)]
@@ -14,10 +17,27 @@ pub(crate) struct Core {
     pub(crate) panel: Panel,
 }
 
-impl CoreNumbers {
-    pub(crate) fn new(plate: Plate, state: State, panel: Panel) -> CoreNumbers
-        ensures { result ≡ core_numbers plate state panel }
+impl Core {
+    pub(crate) fn of<G: Gauge, S: Switch>(monitor: &Monitor<G, S>) -> Core
+        ensures { result ≡ core_of monitor.now }
     {
+        Core {
+            plate: monitor.plate(),
+            state: monitor.state(),
+            panel: monitor.panel(),
+        }
+    }
+}
+
+impl CoreNumbers {
+    pub(crate) fn new(core: &Core) -> CoreNumbers
+        ensures { result ≡ numbers_of core.now }
+    {
+        let Core {
+            plate,
+            state,
+            panel,
+        } = *core;
         let figure = panel.figure;
         CoreNumbers {
             time: state.time,

@@ -4,7 +4,7 @@ ghost use Rattle.sukepina.specs.Calls.{call_number};
 ghost use Rattle.sukepina.specs.Echo.{EchoMonitor, EchoSetUp, Resting, cause_read, echo_numbers, echo_possible, echo_read, fault_number, gauge_possible, opening_possible, reading_numbers, rest_possible, switch_possible, word_fits};
 
 use crate::call_error::CallError;
-use crate::core_numbers::flag_of;
+use crate::core_numbers::{Core, flag_of};
 use crate::monitor_numbers::MonitorNumbers;
 use crate::numbers::{CoreNumbers, EchoNumbers};
 use crate::possible::is_possible;
@@ -27,7 +27,7 @@ impl MonitorNumbers for EchoNumbers {
         let opening = switch.opening_tick();
         let reading = monitor.gauge().reading();
         EchoNumbers {
-            core: CoreNumbers::new(monitor.plate(), monitor.state(), monitor.panel()),
+            core: CoreNumbers::new(&Core::of(monitor)),
             rest: switch.rest().millis(),
             last_tick: switch.last_tick(),
             opening: opening.unwrap_or(0),
@@ -82,11 +82,11 @@ pub(crate) fn set_up(
 fn is_echo_possible(monitor: &Monitor<Echo, Rest<DriveWord>>) -> bool
     ensures { result ≡ echo_possible monitor.now }
 {
-    let state = monitor.state();
+    let core = Core::of(monitor);
     let reading = monitor.gauge().reading();
-    is_possible(&monitor.plate(), &state, &monitor.panel(), reading)
-        && gauge_is_possible(reading, state.mode)
-        && switch_is_possible(monitor.switch(), &state)
+    is_possible(&core, reading)
+        && gauge_is_possible(reading, core.state.mode)
+        && switch_is_possible(monitor.switch(), &core.state)
 }
 
 // The contact is closed only if the state drives the pump.

@@ -3,19 +3,19 @@ ghost use Rattle.std.specs.Prelude.{◌≡◌};
 ghost use Rattle.control.specs.State.{operate, watched};
 ghost use Rattle.sukepina.specs.Possible.{button_possible, core_possible, dark_possible, panel_possible, reading_possible, same_figure, signal_possible, state_possible, times_possible};
 
+use crate::core_numbers::Core;
 use base::TIME_LIMIT;
 use control::{Button, FailureMode, Mode, Plate, Signal, State, Watchdog};
-use display::Panel;
 use gauges::Reading;
 
 // Taken in whole by each call, as `monitor` is.
 #[inline(always)]
-pub(crate) fn is_possible(plate: &Plate, state: &State, panel: &Panel, reading: Reading) -> bool
-    ensures { result ≡ core_possible plate.now state.now panel.now reading }
+pub(crate) fn is_possible(core: &Core, reading: Reading) -> bool
+    ensures { result ≡ core_possible core.now.plate core.now.state core.now.panel reading }
 {
-    state_is_possible(state)
-        && reading_is_possible(plate, state, reading)
-        && panel_is_possible(plate, state, panel, reading)
+    state_is_possible(&core.state)
+        && reading_is_possible(&core.plate, &core.state, reading)
+        && panel_is_possible(core, reading)
 }
 
 // A faulty gauge or a level past a mark leaves no allok, except in the dark.
@@ -68,9 +68,11 @@ fn dark_is_possible(state: &State) -> bool
 }
 
 // Showing the last step again changes nothing.
-fn panel_is_possible(plate: &Plate, state: &State, panel: &Panel, reading: Reading) -> bool
-    ensures { result ≡ panel_possible plate.now state.now panel.now reading }
+fn panel_is_possible(core: &Core, reading: Reading) -> bool
+    ensures { result ≡ panel_possible core.now.plate core.now.state core.now.panel reading }
 {
-    let again = panel.next(plate, state.mode, state, reading);
-    again == *panel
+    let again = core
+        .panel
+        .next(&core.plate, core.state.mode, &core.state, reading);
+    again == core.panel
 }

@@ -6,7 +6,7 @@ use Rattle.sukepina.specs.Possible.{same_figure, same_panel}
 pub returns : goal.returns
 returns c =
     let d = c.next-again.result in
-    let e = c.args.panel.now in
+    let e = c.args.core.now.panel in
     c.eq.ensures
     ∙ (λ i. (same_beq d.warnings.high e.warnings.high i && (same_beq d.warnings.low e.warnings.low i && same_beq d.warnings.alarm e.warnings.alarm i)) && same_figure d.figure e.figure)
     ∙ ap (λ x. same_panel x e) c.next-again.ensures

@@ -4,7 +4,7 @@ use Rattle.gauges.specs.Cell.{last_took}
 use Rattle.monitor.specs.Calls.{monitor_with}
 use Rattle.switches.specs.Direct.{contact_at}
 use Rattle.sukepina.proofs.Cells.{cell_one, cell_made}
-use Rattle.sukepina.proofs.Cores.{core_of}
+use Rattle.sukepina.specs.Core.{core_of}
 use Rattle.sukepina.proofs.Serving.{none_stands, stands}
 use Rattle.sukepina.proofs.cell.CellNumbersMonitorNumbers.monitor.Goals as goal
 use Rattle.sukepina.specs.Cell.{cell_numbers, cell_possible}

@@ -1,5 +1,5 @@
 use Rattle.std.proofs.Common.{true, false, ◌<◌, sym, ap, ◌∙◌, subst, true≢false, rules}
-use Rattle.sukepina.proofs.Cores.{core_of}
+use Rattle.sukepina.specs.Core.{core_of}
 use Rattle.sukepina.proofs.Echoes.{echo_reads, echo_stands, word_in_16}
 use Rattle.sukepina.proofs.Missing.{none_if, ok_is}
 use Rattle.sukepina.proofs.Serving.{none_stands}
