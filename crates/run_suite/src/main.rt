@@ -78,6 +78,7 @@ impl From<u32> for Kind {
 fn put_run(run: Header, records: &[u8], text: &mut Vec<u8>) -> anyhow::Result<()> {
     let kind = run.kind;
     writeln!(text, "run {kind}")?;
+    // By `ok`: the message is all, without the refusal's own text.
     let echo = Echo::new(run.mount).ok().context("a run has a bad mount")?;
     let rest = RestTime::new(u64::from(run.rest))
         .ok()

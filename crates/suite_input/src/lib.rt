@@ -39,7 +39,7 @@ pub fn digit(on: bool) -> u8
     u8::from(on)
 }
 
-// What a gauge reads, a space before it.
+// Adds what a gauge reads, a space before it.
 pub fn put_reading(reading: Reading, text: &mut String) -> Result<(), AllocError>
     ensures { OnOk result (string_bytes text.new ≡ string_bytes text.old ++ reading_text reading) }
 {
