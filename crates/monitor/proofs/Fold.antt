@@ -145,7 +145,7 @@ module _ (p : Plate) (e b : Event) (g : List Event) (st : State) (lit : on e ≡
   lit_mode : is (mode_after st failure' conditions') Dark ≡ false
   lit_mode =
       let was : is st.mode Dark ≡ false = grind (arith, nat_tests) in
-      cond_both (allok failure') _ _ (λ m. is m Dark ≡ false) (λ _. not_dark conditions' st.mode was) (λ _. was)
+      cond_both (allok failure') _ _ (λ m. is m Dark ≡ false) (λ _. not_dark conditions' st.mode _ (moves conditions' st.mode) was) (λ _. was)
 
   -- of a history that stays well
   module _ (w : well p (e ∷ (b ∷ g)) ≡ true) where

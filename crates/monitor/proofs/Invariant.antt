@@ -169,7 +169,7 @@ module _ (p : Plate) (h : List Event) (e : Event) (now : ℕ) (test : Button) (s
     to_mode _ _ entered stays_dark b = absurd b
     to_mode _ _ entered (waits short calm) b = refl
     to_mode _ _ entered (resets short long calm) b = resets_now short long calm b
-    to_mode _ _ entered (tests other long) b = grind arith
+    to_mode _ _ entered (tests lit other long) b = grind arith
     to_mode _ _ entered (runs short tested-only) b = runs_on short b tested-only
     to_mode _ _ entered (shuts short up o) b = shuts_now short b up
     to_mode _ _ entered (stays_shut short recent) b = shuts_on entered short b (λ up. (recent up).0)

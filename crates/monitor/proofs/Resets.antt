@@ -1,6 +1,5 @@
 -- A long reset: after 14,500 ms of quiet steps with reset down the mode is operating, and letting go drives the pump.
 use Rattle.std.proofs.Common.{◌≡◌, ℕ, ◌+◌, ◌-◌, ◌<◌, ◌≤◌, true, false, cond, List, refl, arith}
-use Rattle.control.specs.ModeTable.{next_mode}
 use Rattle.control.specs.Modes.{is}
 use Rattle.control.specs.declared.button.Button.{Button}
 use Rattle.control.specs.declared.mode.Mode.{Mode}
@@ -44,7 +43,7 @@ module _ (p : Plate) (h : List Event) (e : Event) (now entered : ℕ) (test : Bu
   begins r sig _ _ stays_dark here b = absurd b
   begins r sig _ _ (waits a c) here b = omega arith
   begins r sig _ _ (resets a c d) here b = tt
-  begins r sig _ _ (tests other long) here b = absurd (untested long)
+  begins r sig _ _ (tests lit other long) here b = absurd (untested long)
   begins r sig _ _ (runs a c) here b = tt
   begins r sig _ _ (shuts a c o) here b = absurd (in_limits o)
   begins r sig _ _ (stays_shut a recent) here b = absurd (let loose = (recent q.up).1 in cc)
@@ -58,7 +57,7 @@ module _ (p : Plate) (h : List Event) (e : Event) (now entered : ℕ) (test : Bu
   goes_on r _ _ stays_dark held l = absurd l
   goes_on r _ _ (waits a long) held l = omega (arith, not_long long)
   goes_on r _ _ (resets a c d) held l = tt
-  goes_on r _ _ (tests other long) held l = absurd (untested long)
+  goes_on r _ _ (tests lit other long) held l = absurd (untested long)
   goes_on r _ _ (runs a c) held l = tt
   goes_on r _ _ (shuts a c o) held l = absurd (in_limits o)
   goes_on r _ _ (stays_shut a c) held l = absurd l
@@ -67,16 +66,16 @@ module _ (p : Plate) (h : List Event) (e : Event) (now entered : ℕ) (test : Bu
   goes_on r _ _ (tests_on short) held l = grind arith
   goes_on r _ _ tested held l = grind arith
 
-  -- 14,500 ms after r it is operating, and a quiet step keeps it so
-  led : (r : ℕ) (m : Mode) → r + 14500 ≤ now → Leads r m now entered → m ≡ Operating
-  led r Dark long l = absurd l
-  led r Standby long l = absurd (omega arith)
-  led r Operating long l = refl
-  led r Shutdown long l = absurd l
-  led r Test long l = absurd (omega (arith, l.0, l.1))
-
-  keeps_on : next_mode Operating (seen p h e entered test) ≡ Operating
-  keeps_on = grind (arith, nat_tests, untested, in_limits)
-
-  pub arrives : (r : ℕ) (m : Mode) → r + 14500 ≤ now → Leads r m now entered → next_mode m (seen p h e entered test) ≡ Operating
-  arrives r m long l = rw (led r m long l) keeps_on
+  -- at a quiet step 14,500 ms after r the mode is operating
+  pub arrives : (r : ℕ) (m n : Mode) → Moves (seen p h e entered test) m n → r + 14500 ≤ now → Leads r m now entered → n ≡ Operating
+  arrives r _ _ stays_dark held l = absurd l
+  arrives r _ _ (waits a c) held l = absurd (omega arith)
+  arrives r _ _ (resets a c d) held l = refl
+  arrives r _ _ (tests lit other long) held l = absurd (untested long)
+  arrives r _ _ (runs a c) held l = refl
+  arrives r _ _ (shuts a c o) held l = absurd (in_limits o)
+  arrives r _ _ (stays_shut a c) held l = absurd l
+  arrives r _ _ (recovers a c d) held l = refl
+  arrives r _ _ (gives_up a) held l = absurd l
+  arrives r _ _ (tests_on short) held l = absurd (omega (arith, l.0, l.1))
+  arrives r _ _ tested held l = absurd (omega (arith, l.0, l.1))
