@@ -1,4 +1,4 @@
-ghost use Rattle.std.specs.Prelude.{◌≡◌, ◌+◌, ◌<◌, ◌≤◌, [], ◌++◌, length, decimal};
+ghost use Rattle.std.specs.Prelude.{◌≡◌, ◌+◌, ◌*◌, ◌<◌, ◌≤◌, [], ◌++◌, length, decimal};
 ghost use Rattle.display.specs.Pair.{pair};
 
 use std::marker::Model;
@@ -55,13 +55,14 @@ impl Buffer {
     }
 
     // Puts `piece` before what stands there.
+    #[inline(always)]
     pub(crate) fn before(&mut self, piece: &[u8])
         requires { length piece.now + length self.old ≤ 64 }
         ensures { self.new ≡ piece.now ++ self.old }
     {
         let end = self.start;
         let start = end - piece.len();
-        self.bytes[start..end].copy_from_slice(piece);
+        lay(&mut self.bytes[start..end], piece);
         self.start = start;
     }
 
@@ -84,6 +85,34 @@ impl Buffer {
             self.before(&[b'0' + left as u8]);
         }
     }
+}
+
+// Lays a text over another of its length. A copy whose length is not known is a call to the C library, which takes
+// longer than a short text does: so its first and its last bytes are copied, each in a length that is known.
+#[inline(always)]
+pub(crate) fn lay(over: &mut [u8], text: &[u8])
+    requires { length text.now ≡ length over.old }
+    ensures { over.new ≡ text.now }
+{
+    match text.len() {
+        4..=8 => lay_ends::<4>(over, text),
+        9..=16 => lay_ends::<8>(over, text),
+        17..=32 => lay_ends::<16>(over, text),
+        33..=64 => lay_ends::<32>(over, text),
+        _ => over.copy_from_slice(text),
+    }
+}
+
+// By its first and its last N bytes.
+#[inline(always)]
+fn lay_ends<const N: usize>(over: &mut [u8], text: &[u8])
+    requires fits { length text.now ≡ length over.old }
+    requires ends { (N ≤ length text.now) × (length text.now ≤ 2 * N) }
+    ensures { over.new ≡ text.now }
+{
+    let last = text.len() - N;
+    over[..N].copy_from_slice(&text[..N]);
+    over[last..].copy_from_slice(&text[last..]);
 }
 
 // Both decimal digits of a number below 100.

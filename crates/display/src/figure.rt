@@ -5,7 +5,7 @@ use control::{FailureMode, Mode, State};
 use gauges::Reading;
 
 // No level.
-pub(crate) const BLANK: [u8; 4] = *b"--.-";
+pub(crate) const BLANK: &[u8; 4] = b"--.-";
 
 // A tenth of a centimetre in units, and half of it.
 const TENTH: u64 = 10_000;
@@ -30,7 +30,7 @@ pub(crate) fn figure(state: &State, reading: Reading) -> [u8; 4]
         (FailureMode::Allok, Mode::Standby | Mode::Operating | Mode::Shutdown) => level_figure(
             reading,
         ),
-        _ => BLANK,
+        _ => *BLANK,
     }
 }
 
@@ -40,7 +40,7 @@ fn level_figure(reading: Reading) -> [u8; 4]
 {
     match reading {
         Ok(level) => tenths_figure((u64::from(level) + HALF_TENTH) / TENTH),
-        Err(_) => BLANK,
+        Err(_) => *BLANK,
     }
 }
 

@@ -20,7 +20,7 @@ impl Panel {
     {
         Panel {
             warnings: Warnings::off(),
-            figure: BLANK,
+            figure: *BLANK,
         }
     }
 
