@@ -61,11 +61,13 @@ pub(crate) fn set_up(numbers: &mut CellNumbers, plate: &PlateNumbers) -> Result<
     Ok(())
 }
 
+// Taken in whole by each call, as `monitor` is.
+#[inline(always)]
 fn is_cell_possible(monitor: &Monitor<Cell, DirectContact>) -> bool
     ensures { result ≡ cell_possible monitor.now }
 {
-    let core = Core::of(monitor);
-    is_possible(&core, monitor.gauge().reading())
-        && (monitor.gauge().word().is_some() || core.state.mode == Mode::Dark)
-        && monitor.switch().is_closed() == core.state.drives()
+    let state = monitor.state();
+    is_possible(monitor)
+        && (monitor.gauge().word().is_some() || state.mode == Mode::Dark)
+        && monitor.switch().is_closed() == state.drives()
 }

@@ -154,9 +154,8 @@ pub(crate) fn flag_of(number: u32) -> Option<bool>
 fn either<T: Copy>(first: T, second: T, number: u32) -> Option<T>
     ensures { result ≡ either first second number }
 {
-    match number {
-        0 => Some(first),
-        1 => Some(second),
-        _ => None,
+    if number > 1 {
+        return None;
     }
+    Some(if number == 0 { first } else { second })
 }

@@ -79,14 +79,15 @@ pub(crate) fn set_up(
     Ok(())
 }
 
+// Taken in whole by each call, as `monitor` is.
+#[inline(always)]
 fn is_echo_possible(monitor: &Monitor<Echo, Rest<DriveWord>>) -> bool
     ensures { result ≡ echo_possible monitor.now }
 {
-    let core = Core::of(monitor);
-    let reading = monitor.gauge().reading();
-    is_possible(&core, reading)
-        && gauge_is_possible(reading, core.state.mode)
-        && switch_is_possible(monitor.switch(), &core.state)
+    let state = monitor.state();
+    is_possible(monitor)
+        && gauge_is_possible(monitor.gauge().reading(), state.mode)
+        && switch_is_possible(monitor.switch(), &state)
 }
 
 // The contact is closed only if the state drives the pump.

@@ -3,19 +3,23 @@ ghost use Rattle.std.specs.Prelude.{◌≡◌};
 ghost use Rattle.control.specs.State.{operate, watched};
 ghost use Rattle.sukepina.specs.Possible.{button_possible, core_possible, dark_possible, panel_possible, reading_possible, same_figure, signal_possible, state_possible, times_possible};
 
-use crate::core_numbers::Core;
 use base::TIME_LIMIT;
 use control::{Button, FailureMode, Mode, Plate, Signal, State, Watchdog};
-use gauges::Reading;
+use gauges::{Gauge, Reading};
+use monitor::Monitor;
+use switches::Switch;
 
-// Taken in whole by each call, as `monitor` is.
+// Taken in whole by each call, as `monitor` is, with what looks at the state and the panel. It looks at the monitor
+// itself: a copy of its parts would have to be waited for.
 #[inline(always)]
-pub(crate) fn is_possible(core: &Core, reading: Reading) -> bool
-    ensures { result ≡ core_possible core.now.plate core.now.state core.now.panel reading }
+pub(crate) fn is_possible<G: Gauge, S: Switch>(monitor: &Monitor<G, S>) -> bool
+    ensures { result ≡ core_possible monitor.now.plate monitor.now.state monitor.now.panel (G.Gauge.model.reading monitor.now.gauge) }
 {
-    state_is_possible(&core.state)
-        && reading_is_possible(&core.plate, &core.state, reading)
-        && panel_is_possible(core, reading)
+    let state = monitor.state();
+    let reading = monitor.gauge().reading();
+    state_is_possible(&state)
+        && reading_is_possible(&monitor.plate(), &state, reading)
+        && panel_is_possible(monitor, reading)
 }
 
 // A faulty gauge or a level past a mark leaves no allok, except in the dark.
@@ -25,6 +29,7 @@ fn reading_is_possible(plate: &Plate, state: &State, reading: Reading) -> bool
     !plate.is_bad(reading) || state.failure != FailureMode::Allok || state.mode == Mode::Dark
 }
 
+#[inline(always)]
 fn state_is_possible(state: &State) -> bool
     ensures { result ≡ state_possible state.now }
 {
@@ -68,11 +73,13 @@ fn dark_is_possible(state: &State) -> bool
 }
 
 // Showing the last step again changes nothing.
-fn panel_is_possible(core: &Core, reading: Reading) -> bool
-    ensures { result ≡ panel_possible core.now.plate core.now.state core.now.panel reading }
+#[inline(always)]
+#[tactic(auto, using(crate::proofs::Kept::same_beq))]
+fn panel_is_possible<G: Gauge, S: Switch>(monitor: &Monitor<G, S>, reading: Reading) -> bool
+    ensures { result ≡ panel_possible monitor.now.plate monitor.now.state monitor.now.panel reading }
 {
-    let again = core
-        .panel
-        .next(&core.plate, core.state.mode, &core.state, reading);
-    again == core.panel
+    let state = monitor.state();
+    let panel = monitor.panel();
+    let again = panel.next(&monitor.plate(), state.mode, &state, reading);
+    again == panel
 }
