@@ -4,6 +4,7 @@
 #![tactic(auto)]
 
 use base::Refusal;
+use std::alloc::AllocError;
 use std::io::Write;
 use suite_input::{digit, read_all, word};
 use switches::{CLOSED_WORD, DirectContact, DriveWord, Rest, RestTime, Switch};
@@ -12,14 +13,13 @@ const ENTRY_LEN: usize = 16;
 
 fn main(rt: HostRuntime) -> anyhow::Result<()> {
     let input = read_all(rt.alloc(), rt.stdin())?;
-    let script: Vec<Entry> = input
-        .as_slice()
-        .chunks(ENTRY_LEN)
-        .map(Entry::read)
-        .collect(rt.alloc())?;
     let mut text = String::new(rt.alloc());
-    for part in script.as_slice().chunk_by(|_, next| next.is_call()) {
-        put_part(part, &mut text)?;
+    let mut switch = Worked::Nothing;
+    for entry in input.as_slice().chunks(ENTRY_LEN).map(Entry::read) {
+        if !entry.is_call() {
+            switch = made(&entry);
+        }
+        put_entry(&mut switch, &entry, &mut text)?;
     }
     rt.stdout().write_all(text.as_bytes())?;
     Ok(())
@@ -79,23 +79,31 @@ impl Entry {
     }
 }
 
-// One switch, from its making to the next; or entries with no switch.
-fn put_part(part: &[Entry], text: &mut String) -> anyhow::Result<()> {
-    let Some((new, calls)) = part.split_first() else {
-        return Ok(());
-    };
-    let number = new.operation as u8;
+// What the calls go to: the switch that was made last, if there is one. Each entry is worked as it is read: the entries
+// of a switch in a `Vec` would be the input again, and larger.
+#[derive(Drop)]
+enum Worked {
+    Nothing,
+    Refused(Refusal),
+    Contact(DirectContact),
+    Drive(DriveWord),
+    Rest(Rest<DirectContact>),
+    Rests(Rest<Rest<DriveWord>>),
+}
+
+fn made(new: &Entry) -> Worked {
     match new.operation {
-        Operation::NewContact => work(number, Ok(DirectContact::new(new.long == 1)), calls, text),
-        Operation::NewDrive => work(
-            number,
-            Ok(DriveWord::new((new.long % 65_536) as u16)),
-            calls,
-            text,
-        ),
-        Operation::NewRest => work(number, rest(new), calls, text),
-        Operation::NewRests => work(number, rests(new), calls, text),
-        _ => put_nones(part, text),
+        Operation::NewContact => Worked::Contact(DirectContact::new(new.long == 1)),
+        Operation::NewDrive => Worked::Drive(DriveWord::new((new.long % 65_536) as u16)),
+        Operation::NewRest => match rest(new) {
+            Ok(switch) => Worked::Rest(switch),
+            Err(refusal) => Worked::Refused(refusal),
+        },
+        Operation::NewRests => match rests(new) {
+            Ok(switch) => Worked::Rests(switch),
+            Err(refusal) => Worked::Refused(refusal),
+        },
+        _ => Worked::Nothing,
     }
 }
 
@@ -110,31 +118,38 @@ fn rests(new: &Entry) -> Result<Rest<Rest<DriveWord>>, Refusal> {
     Ok(Rest::new(Rest::new(DriveWord::new(CLOSED_WORD), lower), upper))
 }
 
-// Works a new switch by the calls that follow its making. One that was refused cannot be called.
-fn work<S: Switch + Drop>(
-    number: u8,
-    made: Result<S, Refusal>,
-    calls: &[Entry],
-    text: &mut String,
-) -> anyhow::Result<()> {
-    let mut switch = match made {
-        Ok(switch) => switch,
-        Err(refusal) => {
-            let number = refusal.number();
-            writeln!(text, "refused {number}")?;
-            return put_nones(calls, text);
-        }
-    };
-    write!(text, "new {number}")?;
-    put_state(&switch, text)?;
-    for entry in calls {
-        call(&mut switch, entry, text)?;
-        put_state(&switch, text)?;
+// The line of an entry: what it made or called, or that there was nothing to call.
+fn put_entry(switch: &mut Worked, entry: &Entry, text: &mut String) -> Result<(), AllocError> {
+    match switch {
+        Worked::Nothing => text.push_str("none\n"),
+        Worked::Refused(refusal) => put_refused(*refusal, entry, text),
+        Worked::Contact(switch) => work(switch, entry, text),
+        Worked::Drive(switch) => work(switch, entry, text),
+        Worked::Rest(switch) => work(switch, entry, text),
+        Worked::Rests(switch) => work(switch, entry, text),
     }
-    Ok(())
 }
 
-fn call<S: Switch>(switch: &mut S, entry: &Entry, text: &mut String) -> anyhow::Result<()> {
+// One that was refused cannot be called.
+fn put_refused(refusal: Refusal, entry: &Entry, text: &mut String) -> Result<(), AllocError> {
+    if entry.is_call() {
+        return text.push_str("none\n");
+    }
+    let number = refusal.number();
+    writeln!(text, "refused {number}")
+}
+
+fn work<S: Switch>(switch: &mut S, entry: &Entry, text: &mut String) -> Result<(), AllocError> {
+    if entry.is_call() {
+        call(switch, entry, text)?;
+    } else {
+        let number = entry.operation as u8;
+        write!(text, "new {number}")?;
+    }
+    put_state(switch, text)
+}
+
+fn call<S: Switch>(switch: &mut S, entry: &Entry, text: &mut String) -> Result<(), AllocError> {
     match entry.operation {
         Operation::Tick => {
             let time = entry.long;
@@ -154,16 +169,8 @@ fn call<S: Switch>(switch: &mut S, entry: &Entry, text: &mut String) -> anyhow::
 }
 
 // Contact and freedom, to the line's end.
-fn put_state<S: Switch>(switch: &S, text: &mut String) -> anyhow::Result<()> {
+fn put_state<S: Switch>(switch: &S, text: &mut String) -> Result<(), AllocError> {
     let contact = digit(switch.is_closed());
     let freedom = digit(switch.is_free());
-    writeln!(text, " {contact} {freedom}")?;
-    Ok(())
-}
-
-fn put_nones(entries: &[Entry], text: &mut String) -> anyhow::Result<()> {
-    for _ in entries {
-        text.push_str("none\n")?;
-    }
-    Ok(())
+    writeln!(text, " {contact} {freedom}")
 }
