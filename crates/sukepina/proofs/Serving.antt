@@ -1,5 +1,5 @@
 -- A call served, and a call refused because no monitor can have the numbers.
-use Rattle.std.proofs.Common.{◌≡◌, Bool, true, false, cond, Some, None, Option, sym, ap, ◌∙◌, subst}
+use Rattle.std.proofs.Common.{◌≡◌, ℕ, Bool, true, false, cond, Some, None, Option, sym, ap, ◌∙◌, subst}
 use Rattle.std.proofs.lemmas.Bool.{false_from_ne_true, false≢true}
 use Rattle.sukepina.specs.Boundary.{Call, StandsFor}
 
@@ -30,3 +30,8 @@ module _ {N M R : Type 0} (numbers : M → N) (possible : M → Bool) (unserved 
   -- the same told in other words
   pub told_call : (n : N) (r r' : R) (n' : N) → r' ≡ r → Call numbers possible unserved answer after n r n' → Call numbers possible unserved answer after n r' n'
   told_call n r r' n' same call = subst (λ x. Call numbers possible unserved answer after n x n') (sym same) call
+
+-- an answer with a place beside it, its number told in other words
+pub told_placed : {N M : Type 0} (numbers : M → N) (possible : M → Bool) (unserved : ℕ × ℕ) (answer : M → ℕ × ℕ) (after : M → M) (n : N) (k k' p : ℕ) (n' : N)
+    → Call numbers possible unserved answer after n (k, p) n' → k' ≡ k → Call numbers possible unserved answer after n (k', p) n'
+told_placed numbers possible unserved answer after n k k' p n' call same = told_call numbers possible unserved answer after n (k, p) (k', p) n' (ap (λ x. (x, p)) same) call

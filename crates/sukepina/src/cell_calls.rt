@@ -23,6 +23,7 @@ pub extern "C" fn sukepina_cell_set_up_raw(numbers: &mut CellNumbers, plate: &Pl
 }
 
 // One step: 0, or 3, 4 or 7.
+#[tactic(auto, using(crate::proofs::Serving::told_call))]
 #[unsafe(no_mangle)]
 pub extern "C" fn sukepina_cell_step_raw(numbers: &mut CellNumbers, facts: &StepNumbers) -> u32
     ensures { Call cell_numbers cell_possible no_monitor (λ _. answered (told facts.now)) (with_step cell direct (told facts.now)) numbers.old result numbers.new }
@@ -31,6 +32,7 @@ pub extern "C" fn sukepina_cell_step_raw(numbers: &mut CellNumbers, facts: &Step
 }
 
 // Steps with the record at `*place` and moves the place on: 0, or 1 to 4, or 7.
+#[tactic(auto, using(crate::proofs::Serving::told_placed))]
 #[unsafe(no_mangle)]
 pub extern "C" fn sukepina_cell_feed_raw(
     numbers: &mut CellNumbers,

@@ -29,6 +29,7 @@ pub extern "C" fn sukepina_echo_set_up_raw(
 }
 
 // One step: 0, or 3, 4 or 7.
+#[tactic(auto, using(crate::proofs::Serving::told_call))]
 #[unsafe(no_mangle)]
 pub extern "C" fn sukepina_echo_step_raw(numbers: &mut EchoNumbers, facts: &StepNumbers) -> u32
     ensures { Call echo_numbers echo_possible no_monitor (λ _. answered (told facts.now)) (with_step echo (resting drive) (told facts.now)) numbers.old result numbers.new }
@@ -37,6 +38,7 @@ pub extern "C" fn sukepina_echo_step_raw(numbers: &mut EchoNumbers, facts: &Step
 }
 
 // Steps with the record at `*place` and moves the place on: 0, or 1 to 4, or 7.
+#[tactic(auto, using(crate::proofs::Serving::told_placed))]
 #[unsafe(no_mangle)]
 pub extern "C" fn sukepina_echo_feed_raw(
     numbers: &mut EchoNumbers,
