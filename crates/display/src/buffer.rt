@@ -88,7 +88,7 @@ impl Buffer {
 }
 
 // Lays a text over another of its length. A copy whose length is not known is a call to the C library, which takes
-// longer than a short text does: so its first and its last bytes are copied, each in a length that is known.
+// longer than a short text does: so of 4 to 64 bytes the first and the last are copied, each in a length that is known.
 #[inline(always)]
 pub(crate) fn lay(over: &mut [u8], text: &[u8])
     requires { length text.now ≡ length over.old }
