@@ -1,16 +1,15 @@
 -- The cell monitor's numbers tell all of it, and every monitor's numbers fit.
-use Rattle.std.proofs.Common.{arith, ◌≡◌, Bool, true, false, ◌&&◌, eqb, leb, Some, refl, ap}
+use Rattle.std.proofs.Common.{arith, ◌≡◌, Bool, true, false, ◌&&◌, eqb, leb, refl, ap, ◌∙◌}
 use Rattle.std.proofs.lemmas.Bool.Decides.{nat_tests}
 use Rattle.std.proofs.lemmas.Bool.{and_parts, and_from}
 use Rattle.base.specs.Limits.{time_limit}
-use Rattle.std.specs.Bool.{then_some}
 use Rattle.control.specs.Modes.{is}
 use Rattle.control.specs.State.{drives}
 use Rattle.control.specs.Transition.{next_state}
 use Rattle.control.specs.declared.mode.Mode.TheVariants.{Dark}
 use Rattle.control.specs.declared.plate.Plate.{Plate}
-use Rattle.gauges.specs.Cell.{cell, last_took, nothing_taken}
-use Rattle.monitor.specs.Calls.{accepted, gauge_after, monitor_with, set_up, worked}
+use Rattle.gauges.specs.Cell.{cell, nothing_taken}
+use Rattle.monitor.specs.Calls.{accepted, gauge_after, set_up, worked}
 use Rattle.records.specs.declared.step.Step.{Step}
 use Rattle.switches.specs.Direct.{contact_at, direct}
 use Rattle.switches.specs.declared.direct.DirectContact.{DirectContact}
@@ -19,7 +18,7 @@ use Rattle.sukepina.specs.Core.{core_of}
 use Rattle.sukepina.proofs.Kept.{panel_kept, powered, reading_kept, state_kept}
 use Rattle.sukepina.proofs.Missing.{missing_one}
 use Rattle.sukepina.specs.Cell.{CellMonitor, cell_numbers, cell_possible}
-use Rattle.sukepina.specs.Core.{flag_of, numbers_of}
+use Rattle.sukepina.specs.Core.{flag, numbers_of}
 use Rattle.sukepina.specs.Maybe.{or_0, there}
 use Rattle.sukepina.specs.declared.core_numbers.Core.{Core}
 use Rattle.sukepina.specs.declared.numbers.CellNumbers.{CellNumbers}
@@ -38,10 +37,9 @@ cell_one m m' e =
     }
 
 -- the numbers of a monitor, each part of which stands for one of n
-pub cell_made : (n : CellNumbers) (x : Core) (taken closed : Bool) → numbers_of x ≡ n.core → flag_of n.taken ≡ Some taken
-    → or_0 (then_some taken n.word) ≡ n.word → flag_of n.closed ≡ Some closed
-    → cell_numbers (monitor_with (last_took (then_some taken n.word)) (contact_at closed) x.plate x.state x.panel) ≡ n
-cell_made n x taken closed core is word contact = grind (arith, nat_tests)
+pub cell_made : (n : CellNumbers) (m : CellMonitor) (x : Core) → core_of m ≡ x → numbers_of x ≡ n.core
+    → there m.gauge.word ≡ n.taken → or_0 m.gauge.word ≡ n.word → flag m.switch.closed ≡ n.closed → cell_numbers m ≡ n
+cell_made n m x parts core taken word closed = λ i. record { core = (ap numbers_of parts ∙ core) i; taken = taken i; word = word i; closed = closed i }
 
 contact_kept : (sw : DirectContact) (close : Bool) → same (worked direct sw close).closed close ≡ true
 contact_kept sw close = grind (arith, nat_tests)

@@ -1,5 +1,5 @@
 -- Plate, state and panel as numbers and back: each of the two undoes the other.
-use Rattle.std.proofs.Common.{arith, ◌≡◌, ℕ, Bool, true, Some, ap}
+use Rattle.std.proofs.Common.{arith, ◌≡◌, ℕ, Bool, List, true, Some, ap}
 use Rattle.std.proofs.lemmas.Bool.Decides.{nat_tests}
 use mathlib.Core.Bool.{Bool-set}
 use mathlib.Core.HLevel.{is_prop→PathP}
@@ -10,8 +10,9 @@ use Rattle.control.specs.declared.mode.Mode.{Mode}
 use Rattle.control.specs.declared.mode.Signal.{Signal}
 use Rattle.control.specs.declared.mode.Watchdog.{Watchdog}
 use Rattle.control.specs.declared.plate.Plate.{Plate}
-use Rattle.sukepina.specs.Core.{failure_number, failure_of, flag, flag_of, mode_number, mode_of, numbers_of, signal_of, watchdog_of}
+use Rattle.sukepina.specs.Core.{core_numbers, failure_number, failure_of, flag, flag_of, mode_number, mode_of, numbers_of, signal_of, watchdog_of}
 use Rattle.sukepina.specs.declared.core_numbers.Core.{Core}
+use Rattle.sukepina.specs.declared.numbers.CoreNumbers.{CoreNumbers}
 
 -- ---- what has the same number is the same, and what a number leads to has that number
 
@@ -44,6 +45,32 @@ watchdog_one w k e = grind (arith, nat_tests)
 
 pub watchdog_same : (n : ℕ) (w : Watchdog) → watchdog_of n ≡ Some w → flag (watched w) ≡ n
 watchdog_same n w e = grind (arith, nat_tests)
+
+-- what has each number of n has all of them
+pub core_made : (n : CoreNumbers) (p : Plate) (m : Mode) (f : FailureMode) (sg : Signal) (w : Watchdog) (t e rs ts : ℕ) (rd td h l a : Bool) (fig : List ℕ)
+    → t ≡ n.time → e ≡ n.entered → rs ≡ n.reset_since → ts ≡ n.test_since → p.numbers ≡ n.plate → mode_number m ≡ n.mode → failure_number f ≡ n.failure
+    → flag (operate sg) ≡ n.signal → flag (watched w) ≡ n.watchdog → flag rd ≡ n.reset_down → flag td ≡ n.test_down → flag h ≡ n.high → flag l ≡ n.low → flag a ≡ n.alarm → fig ≡ n.figure
+    → core_numbers p
+    (record { mode = m; failure = f; signal = sg; watchdog = w; time = t; entered = e; reset = record { down = rd; since = rs }; test = record { down = td; since = ts } })
+    (record { warnings = record { high = h; low = l; alarm = a }; figure = fig })
+    ≡ n
+core_made n p m f sg w t e rs ts rd td h l a fig time entered reset_since test_since plate mode failure signal watchdog reset_down test_down high low alarm figure = λ i. record {
+  time = time i;
+  entered = entered i;
+  reset_since = reset_since i;
+  test_since = test_since i;
+  plate = plate i;
+  mode = mode i;
+  failure = failure i;
+  signal = signal i;
+  watchdog = watchdog i;
+  reset_down = reset_down i;
+  test_down = test_down i;
+  high = high i;
+  low = low i;
+  alarm = alarm i;
+  figure = figure i;
+}
 
 -- ---- plate, state and panel
 

@@ -6,9 +6,7 @@ use native.Mathlib.Bridge.{le_prop}
 use lib.Ieee.{Float}
 use Rattle.std.proofs.lemmas.Bool.{and_parts, and_from}
 use Rattle.std.proofs.lemmas.Bool.Decides.{nat_tests}
-use Rattle.std.specs.Bool.{then_some}
 use Rattle.base.specs.Limits.{time_limit}
-use Rattle.control.specs.Modes.{is}
 use Rattle.control.specs.State.{dark, drives}
 use Rattle.control.specs.Transition.{next_state}
 use Rattle.control.specs.declared.mode.Mode.{Mode}
@@ -22,10 +20,10 @@ use Rattle.gauges.specs.Height.{in_mount}
 use Rattle.gauges.specs.Model.{Reading, fresh, is_in_range}
 use Rattle.gauges.specs.declared.echo.Echo.{Echo}
 use Rattle.gauges.specs.declared.reading.Cause.TheVariants.{Nothing}
-use Rattle.monitor.specs.Calls.{accepted, gauge_after, monitor_with, set_up, worked}
+use Rattle.monitor.specs.Calls.{accepted, gauge_after, set_up, worked}
 use Rattle.records.specs.declared.step.Step.{Step}
 use Rattle.switches.specs.Drive.{drive, word_at}
-use Rattle.switches.specs.Rest.{new_rest, rest_with, resting}
+use Rattle.switches.specs.Rest.{new_rest, resting}
 use Rattle.switches.specs.declared.rest_time.RestTime.{RestTime}
 use Rattle.sukepina.proofs.Cores.{core_one}
 use Rattle.sukepina.specs.Core.{core_of}
@@ -36,8 +34,8 @@ use Rattle.sukepina.proofs.Missing.{missing_one}
 use Rattle.sukepina.specs.Echo.{EchoMonitor, Resting, echo_numbers, echo_possible, echo_read, fault_number, gauge_possible, level_number, reading_numbers, rest_possible, switch_possible}
 use Rattle.sukepina.specs.declared.core_numbers.Core.{Core}
 use Rattle.sukepina.specs.declared.numbers.EchoNumbers.{EchoNumbers}
-use Rattle.sukepina.specs.Core.{flag_of, numbers_of}
-use Rattle.sukepina.specs.Maybe.{or_0}
+use Rattle.sukepina.specs.Core.{numbers_of}
+use Rattle.sukepina.specs.Maybe.{or_0, there}
 use Rattle.sukepina.specs.Possible.{core_possible, state_possible}
 
 -- ---- gauges and rests that tell the same are the same: ghost fields add nothing
@@ -95,16 +93,23 @@ echo_one m m' read read' e =
     }
 
 -- what n stands for, where each part of a monitor stands for one of n
-pub echo_stands : (n : EchoNumbers) (m : EchoMonitor) (x : Core) (g : Echo) (t : RestTime) (opened : Bool)
-    → m ≡ monitor_with g (rest_with (word_at n.drive) t n.last_tick (then_some opened n.opening)) x.plate x.state x.panel
-    → numbers_of x ≡ n.core → g.mount ≡ n.mount → (reading_numbers g.last ≡ (n.fault, n.level)) × (echo_read g.last ≡ true) → t.millis ≡ n.rest
-    → flag_of n.opened ≡ Some opened → or_0 (then_some opened n.opening) ≡ n.opening
+pub echo_stands : (n : EchoNumbers) (m : EchoMonitor) (x : Core) → core_of m ≡ x → numbers_of x ≡ n.core
+    → m.gauge.mount ≡ n.mount → (reading_numbers m.gauge.last ≡ (n.fault, n.level)) × (echo_read m.gauge.last ≡ true) → m.switch.rest.millis ≡ n.rest → m.switch.last ≡ n.last_tick
+    → there m.switch.opening ≡ n.opened → or_0 m.switch.opening ≡ n.opening → m.switch.below.word ≡ n.drive
     → (can : Bool) → echo_possible m ≡ can → StandsFor echo_numbers echo_possible n (cond can (Some m) None)
-echo_stands n m x g t opened made core mount reading rest is opening =
-    let numbers : echo_numbers (monitor_with g (rest_with (word_at n.drive) t n.last_tick (then_some opened n.opening)) x.plate x.state x.panel) ≡ n = grind (arith, nat_tests) in
-    let has = ap echo_numbers made ∙ numbers in
-    let reads : echo_read m.gauge.last ≡ true = ap (λ k. echo_read k.gauge.last) made ∙ reading.1 in
-    stands echo_numbers echo_possible n m has (λ k can e. echo_one k m (echo_reads k can) reads (e ∙ sym has))
+echo_stands n m x parts core mount reading rest last opened opening drive =
+    let has : echo_numbers m ≡ n = λ i. record {
+      core = (ap numbers_of parts ∙ core) i;
+      rest = rest i;
+      last_tick = last i;
+      opening = opening i;
+      opened = opened i;
+      mount = mount i;
+      fault = (reading.0 i).0;
+      level = (reading.0 i).1;
+      drive = drive i;
+    } in
+    stands echo_numbers echo_possible n m has (λ k can e. echo_one k m (echo_reads k can) reading.1 (e ∙ sym has))
 
 -- a drive's word has 16 bits
 pub word_in_16 : (m : EchoMonitor) → echo_possible m ≡ true → m.switch.below.word < 65536

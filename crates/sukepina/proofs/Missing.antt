@@ -22,6 +22,11 @@ pub ok_is : {A E : Type 0} (P : A → Type 0) (Q : E → Type 0) (r : Result A E
 ok_is P Q (Ok y) x e p = let same : x ≡ y = cc in subst P (sym same) p
 ok_is P Q (Err why) x e p = absurd (cc)
 
+-- what a result is that is one just where P holds
+pub ok_at : {A E : Type 0} (P : Type 0) (v : A) (r : Result A E) (x : A) → OkIff r P v → Some x ≡ result_ok r → x ≡ v
+ok_at P v (Ok y) x just e = cc
+ok_at P v (Err why) x just e = absurd (cc)
+
 -- of a result that is none though it is one just where P holds
 pub none_if : {A E : Type 0} (P : Type 0) (v : A) (r : Result A E) → OkIff r P v → result_ok r ≡ None → P → ⊥
 none_if P v (Ok x) just e p = cc

@@ -1,14 +1,12 @@
-use Rattle.std.proofs.Common.{false, ◌≡◌, sym, ap, ◌∙◌, true≢false, rules}
-use Rattle.std.specs.Bool.{then_some}
-use Rattle.gauges.specs.Cell.{last_took}
-use Rattle.monitor.specs.Calls.{monitor_with}
-use Rattle.switches.specs.Direct.{contact_at}
+use Rattle.std.proofs.Common.{arith, false, sym, ap, ◌∙◌, true≢false, rules}
+use Rattle.std.proofs.lemmas.Bool.Decides.{nat_tests}
 use Rattle.sukepina.proofs.Cells.{cell_one, cell_made}
-use Rattle.sukepina.specs.Core.{core_of}
+use Rattle.sukepina.proofs.Cores.{flag_same}
+use Rattle.sukepina.proofs.Missing.{there_flag}
 use Rattle.sukepina.proofs.Serving.{none_stands, stands}
 use Rattle.sukepina.proofs.cell.CellNumbersMonitorNumbers.monitor.Goals as goal
 use Rattle.sukepina.specs.Cell.{cell_numbers, cell_possible}
-use Rattle.sukepina.specs.Maybe.{or_0}
+use Rattle.sukepina.specs.Core.{core_of}
 
 pub returns-in_err-core : goal.returns-in_err-core
 returns-in_err-core c =
@@ -17,10 +15,6 @@ returns-in_err-core c =
 pub returns-then-not-is_cell_possible : goal.returns-then-not-is_cell_possible
 returns-then-not-is_cell_possible c =
     let n = c.args.self.now in
-    let x = c.in_ok-core.core in
-    let taken = c.in_ok-flag_of.field-0 in
-    let closed = c.in_ok-flag_of-2.field-0 in
-    let made : c.restore-monitor.result ≡ monitor_with (last_took (then_some taken n.word)) (contact_at closed) x.plate x.state x.panel = search rules in
-    let word : or_0 (then_some taken n.word) ≡ n.word = search rules in
-    let has = ap cell_numbers made ∙ cell_made n x taken closed c.in_ok-core.ensures.0 (sym c.in_ok-flag_of.ensures) word (sym c.in_ok-flag_of-2.ensures) in
-    stands cell_numbers cell_possible n c.restore-monitor.result has (λ k _ e. cell_one k c.restore-monitor.result (e ∙ sym has)) false (sym c.if-not-is_cell_possible.ensures)
+    let m = c.restore-monitor.result in
+    let has = cell_made n m c.in_ok-core.core (search rules) c.in_ok-core.ensures.0 (grind (arith, nat_tests, there_flag, flag_same)) (grind (arith, nat_tests)) (grind (arith, nat_tests, flag_same)) in
+    stands cell_numbers cell_possible n m has (λ k _ e. cell_one k m (e ∙ sym has)) false (sym c.if-not-is_cell_possible.ensures)

@@ -1,7 +1,9 @@
-use Rattle.std.proofs.Common.{true, false, ◌<◌, sym, ap, ◌∙◌, subst, true≢false, rules}
+use Rattle.std.proofs.Common.{arith, true, false, ◌≡◌, ◌<◌, sym, ap, ◌∙◌, subst, true≢false, rules}
+use Rattle.std.proofs.lemmas.Bool.Decides.{nat_tests}
 use Rattle.sukepina.specs.Core.{core_of}
+use Rattle.sukepina.proofs.Cores.{flag_same}
 use Rattle.sukepina.proofs.Echoes.{echo_reads, echo_stands, word_in_16}
-use Rattle.sukepina.proofs.Missing.{none_if, ok_is}
+use Rattle.sukepina.proofs.Missing.{none_if, ok_at, ok_is, there_flag}
 use Rattle.sukepina.proofs.Serving.{none_stands}
 use Rattle.sukepina.proofs.echo.EchoNumbersMonitorNumbers.monitor.Goals as goal
 use Rattle.sukepina.specs.Echo.{echo_numbers, echo_possible}
@@ -23,12 +25,14 @@ returns-in_err-ok c =
 
 pub returns-then-not-is_echo_possible : goal.returns-then-not-is_echo_possible
 returns-then-not-is_echo_possible c =
-    echo_stands c.args.self.now c.restore-monitor.result c.in_ok-core.core c.in_ok-gauge.gauge c.in_ok-rest.rest c.in_ok-flag_of.field-0 (search rules)
-    c.in_ok-core.ensures.0 c.in_ok-gauge.ensures.2 (search rules) (ok_is _ _ c.new.result c.in_ok-rest.rest c.in_ok-rest.ensures.value c.new.ensures).0
-    (sym c.in_ok-flag_of.ensures) (search rules) false (sym c.if-not-is_echo_possible.ensures)
+    let rest : c.in_ok-rest.rest.millis ≡ c.args.self.now.rest = (ok_is _ _ c.new.result c.in_ok-rest.rest c.in_ok-rest.ensures.value c.new.ensures).0 in
+    let drive : c.in_ok-ok.field-0 ≡ c.args.self.now.drive = ok_at _ _ c.try_from.result c.in_ok-ok.field-0 c.try_from.ensures c.in_ok-ok.ensures.value in
+    echo_stands c.args.self.now c.restore-monitor.result c.in_ok-core.core (search rules) c.in_ok-core.ensures.0 (search rules) (search rules) (search rules) (search rules)
+    (grind (arith, nat_tests, there_flag, flag_same)) (grind (arith, nat_tests)) (search rules) false (sym c.if-not-is_echo_possible.ensures)
 
 pub returns : goal.returns
 returns c =
-    echo_stands c.args.self.now c.restore-monitor.result c.in_ok-core.core c.in_ok-gauge.gauge c.in_ok-rest.rest c.in_ok-flag_of.field-0 (search rules)
-    c.in_ok-core.ensures.0 c.in_ok-gauge.ensures.2 (search rules) (ok_is _ _ c.new.result c.in_ok-rest.rest c.in_ok-rest.ensures.value c.new.ensures).0
-    (sym c.in_ok-flag_of.ensures) (search rules) true (sym c.if-not-is_echo_possible.ensures)
+    let rest : c.in_ok-rest.rest.millis ≡ c.args.self.now.rest = (ok_is _ _ c.new.result c.in_ok-rest.rest c.in_ok-rest.ensures.value c.new.ensures).0 in
+    let drive : c.in_ok-ok.field-0 ≡ c.args.self.now.drive = ok_at _ _ c.try_from.result c.in_ok-ok.field-0 c.try_from.ensures c.in_ok-ok.ensures.value in
+    echo_stands c.args.self.now c.restore-monitor.result c.in_ok-core.core (search rules) c.in_ok-core.ensures.0 (search rules) (search rules) (search rules) (search rules)
+    (grind (arith, nat_tests, there_flag, flag_same)) (grind (arith, nat_tests)) (search rules) true (sym c.if-not-is_echo_possible.ensures)
