@@ -10,7 +10,7 @@ use monitor::Monitor;
 use switches::Switch;
 
 // Taken in whole by each call, as `monitor` is, with what looks at the state and the panel. It looks at the monitor
-// itself: a copy of its parts took 11 to 15 instructions more.
+// itself: with a copy of its parts each call took 11 to 15 instructions more.
 #[inline(always)]
 pub(crate) fn is_possible<G: Gauge, S: Switch>(monitor: &Monitor<G, S>) -> bool
     ensures { result ≡ core_possible monitor.now.plate monitor.now.state monitor.now.panel (G.Gauge.model.reading monitor.now.gauge) }
